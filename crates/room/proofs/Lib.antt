@@ -1,0 +1,2 @@
+-- The laws of writing, for the crates above.
+pub mod Laws

@@ -1,0 +1,61 @@
+-- `put`: before turn i the first i bytes stand in the room, and what is left to write takes the room to where it is to be.
+use mathlib.Core.Path.{refl}
+use Prim.Native.Nat.{_-_}
+use native.Mathlib.Omega.{arith}
+use borrow.Author.Needs.{needs}
+use Rattle.room.proofs.Laws.{Writing, begin, turn, done}
+use Rattle.room.proofs.put.Statement.{statement}
+use Rattle.room.proofs.put.Tie as tie
+
+abbrev Inv-loop : tie.InvT-loop
+Inv-loop room₀ at bytes n i₀ room i = Writing room₀ at bytes n room i
+
+abbrev μ-loop : tie.MeasureT-loop
+μ-loop room₀ at bytes n i₀ room i = n - i
+
+fit-requires : tie.Need-fit-requires Inv-loop μ-loop
+fit-requires c κs = search needs
+
+loop-holds : tie.Need-loop-holds Inv-loop μ-loop
+loop-holds c = begin _ _ _ refl (c .fit .ensures)
+
+shared-slice-read-room : tie.Need-shared-slice-read-room Inv-loop μ-loop
+shared-slice-read-room c = omega arith
+
+add-room : tie.Need-add-room Inv-loop μ-loop
+add-room c = omega arith
+
+slice-write-room : tie.Need-slice-write-room Inv-loop μ-loop
+slice-write-room c = omega arith
+
+add-i : tie.Need-add-i Inv-loop μ-loop
+add-i c = omega arith
+
+loop-less : tie.Need-loop-less Inv-loop μ-loop
+loop-less c = omega arith
+
+loop-again : tie.Need-loop-again Inv-loop μ-loop
+loop-again c = turn _ (c .before .before .loop .inv) (c .before .loop-test .taken) refl
+
+same-length : tie.Need-same-length Inv-loop μ-loop
+same-length c = omega arith
+
+returns : tie.Need-returns Inv-loop μ-loop
+returns c = done (c .before .loop .inv) (c .loop-test .left)
+
+pub put-spec : {M : Type 1} → statement M
+put-spec =
+    tie.close
+    (tie.spec
+    Inv-loop
+    μ-loop
+    fit-requires
+    loop-holds
+    shared-slice-read-room
+    add-room
+    slice-write-room
+    add-i
+    loop-less
+    loop-again
+    same-length
+    returns)

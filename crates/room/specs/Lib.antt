@@ -1,0 +1,2 @@
+-- What a write leaves in lent room.
+pub mod Room
