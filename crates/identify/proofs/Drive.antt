@@ -1,0 +1,137 @@
+-- Laws of drives: when two texts are equal, when a block carries a name, and that being the same drive is an equivalence.
+use mathlib.Core.Path.{_≡_, refl, sym, ap, _∙_}
+use mathlib.Core.Bool.{Bool, true, false, not, _&&_, _||_, and-eq-true-iff, or-false, true≢false, false≢true}
+use mathlib.Core.List.{List, [], _∷_, map}
+use mathlib.Core.Logic.{_⊎_, inl, inr, ⊎-elim}
+use Prim.Native.Nat.{ℕ, zero, suc, _+_, _<_}
+use native.Mathlib.Nat.{le-of-suc-le-suc, not-suc-le-zero}
+use native.Mathlib.Omega.{arith}
+use lib.Dec.{eqb, eqb·suc-zero}
+use lib.ListN.{length, getD, length-map}
+use borrow.Author.Tests.{eq-eqb, ne-eqb, eqb-true}
+use Rattle.identify.specs.Block.{serial, model, name}
+use Rattle.identify.specs.Text.{spaced}
+use Rattle.identify.specs.Drive.{someBit, carriesName, equal, sameDrive}
+use Rattle.identify.proofs.Text.{getD-map}
+
+-- No bit is one where every byte is zero, and some bit is one where some byte is not.
+pub no-bit : (s : List ℕ) → ((k : ℕ) → k < length s → getD s k 0 ≡ 0) → someBit s ≡ false
+unfolding someBit
+no-bit [] z = refl
+no-bit (b ∷ s) z = rw (eq-eqb b 0 (z 0 (omega arith))) (no-bit s (λ k h. z (suc k) (omega arith)))
+
+pub some-bit-at : (s : List ℕ) (k : ℕ) → k < length s → (getD s k 0 ≡ 0 → ⊥) → someBit s ≡ true
+unfolding someBit
+some-bit-at [] k h n = absurd (not-suc-le-zero h)
+some-bit-at (b ∷ s) zero h n = rw (ne-eqb b 0 n)
+some-bit-at (zero ∷ s) (suc k) h n = some-bit-at s k (le-of-suc-le-suc h) n
+some-bit-at (suc b ∷ s) (suc k) h n = rw (eqb·suc-zero b)
+
+-- `equal` says that two lists are one and the same.
+pub equal-self : (s : List ℕ) → equal s s ≡ true
+unfolding equal
+equal-self [] = refl
+equal-self (b ∷ s) = rw (eq-eqb b b refl) (equal-self s)
+
+pub equal-of : {s t : List ℕ} → s ≡ t → equal s t ≡ true
+equal-of {s} e = ap (equal s) (sym e) ∙ equal-self s
+
+pub equal-same : (s t : List ℕ) → equal s t ≡ true → s ≡ t
+unfolding equal
+equal-same [] [] e = refl
+equal-same [] (b ∷ t) e = absurd (false≢true e)
+equal-same (a ∷ s) [] e = absurd (false≢true e)
+equal-same (a ∷ s) (b ∷ t) e =
+    let both = and-eq-true-iff (eqb a b) (equal s t) .0 e in
+    rw (eqb-true a b (both .0), equal-same s t (both .1))
+
+-- A test that cannot be true is false.
+never : (b : Bool) → (b ≡ true → ⊥) → b ≡ false
+never true n = absurd (n refl)
+never false n = refl
+
+pub not-equal : (s t : List ℕ) → (s ≡ t → ⊥) → equal s t ≡ false
+not-equal s t n = never (equal s t) (λ e. n (equal-same s t e))
+
+-- Texts whose bytes f maps: equal where all bytes are, and not where one differs or the lengths do.
+module _ (f : ℕ → ℕ) where
+  pub equal-all : (s t : List ℕ) → length s ≡ length t → ((k : ℕ) → k < length s → f (getD s k 0) ≡ f (getD t k 0)) → equal (map f s) (map f t) ≡ true
+  unfolding equal
+  equal-all [] [] l z = refl
+  equal-all [] (b ∷ t) l z = absurd (omega arith)
+  equal-all (a ∷ s) [] l z = absurd (omega arith)
+  equal-all (a ∷ s) (b ∷ t) l z = rw (eq-eqb (f a) (f b) (z 0 (omega arith))) (equal-all s t (omega arith) (λ k h. z (suc k) (omega arith)))
+
+  pub differ-at : (s t : List ℕ) (k : ℕ) → k < length s → k < length t → (f (getD s k 0) ≡ f (getD t k 0) → ⊥) → equal (map f s) (map f t) ≡ false
+  differ-at s t k hs ht n =
+      not-equal (map f s) (map f t)
+      (λ e. n (sym (getD-map f s k hs) ∙ ap (λ (l : List ℕ). getD l k 0) e ∙ getD-map f t k ht))
+
+  pub differ-in-length : (s t : List ℕ) → (length s ≡ length t → ⊥) → equal (map f s) (map f t) ≡ false
+  differ-in-length s t n = not-equal (map f s) (map f t) (λ e. n (sym (length-map s f) ∙ ap length e ∙ length-map t f))
+
+-- The two cases of demand 3, over their tests alone.
+cases : (p q n m s : Bool) → (p && q && n || not p && not q && m && s) ≡ true → ((p ≡ true) × (q ≡ true) × (n ≡ true)) ⊎ ((p ≡ false) × (q ≡ false) × (m ≡ true) × (s ≡ true))
+cases true true n m s e = inl (refl, refl, rw or-false at e)
+cases true false n m s e = absurd (false≢true e)
+cases false true n m s e = absurd (false≢true e)
+cases false false n m s e = let both = and-eq-true-iff m s .0 e in inr (refl, refl, both .0, both .1)
+
+module _ (a b : List ℕ) where
+  -- "both carry a nonzero world wide name and it is the same one"
+  abbrev pub OneName : Type 0
+  OneName = (carriesName a ≡ true) × (carriesName b ≡ true) × (name a ≡ name b)
+
+  -- "both carry none and have equal model and serial fields with zero bytes read as spaces"
+  abbrev pub OneText : Type 0
+  OneText = (carriesName a ≡ false) × (carriesName b ≡ false) × (spaced (model a) ≡ spaced (model b)) × (spaced (serial a) ≡ spaced (serial b))
+
+  -- Given who carries a name, what is left to compare.
+  pub both-named : carriesName a ≡ true → carriesName b ≡ true → sameDrive a b ≡ equal (name a) (name b)
+  unfolding sameDrive
+  both-named p q = rw (p, q, or-false)
+
+  pub one-named : carriesName a ≡ true → carriesName b ≡ false → sameDrive a b ≡ false
+  unfolding sameDrive
+  one-named p q = rw (p, q)
+
+  pub other-named : carriesName a ≡ false → carriesName b ≡ true → sameDrive a b ≡ false
+  unfolding sameDrive
+  other-named p q = rw (p, q)
+
+  pub none-named : carriesName a ≡ false → carriesName b ≡ false → sameDrive a b ≡ (equal (spaced (model a)) (spaced (model b)) && equal (spaced (serial a)) (spaced (serial b)))
+  unfolding sameDrive
+  none-named p q = rw (p, q)
+
+  -- The same drive, exactly when one or the other holds.
+  pub same-drive-means : sameDrive a b ≡ true → OneName ⊎ OneText
+  unfolding sameDrive
+  same-drive-means e =
+      ⊎-elim (λ w. inl (w .0, w .1, equal-same (name a) (name b) (w .2)))
+      (λ w. inr (w .0, w .1, equal-same (spaced (model a)) (spaced (model b)) (w .2), equal-same (spaced (serial a)) (spaced (serial b)) (w .3)))
+      (cases (carriesName a) (carriesName b) (equal (name a) (name b)) (equal (spaced (model a)) (spaced (model b))) (equal (spaced (serial a)) (spaced (serial b))) e)
+
+  pub same-drive-when : OneName ⊎ OneText → sameDrive a b ≡ true
+  unfolding sameDrive
+  same-drive-when (inl w) = rw (w .0, w .1, equal-of (w .2))
+  same-drive-when (inr w) = rw (w .0, w .1, equal-of (w .2), equal-of (w .3))
+
+-- To be the same drive is an equivalence.
+named-or-not : (b : Bool) → (b ≡ true) ⊎ (b ≡ false)
+named-or-not true = inl refl
+named-or-not false = inr refl
+
+pub same-drive-self : (a : List ℕ) → sameDrive a a ≡ true
+same-drive-self a = same-drive-when a a (⊎-elim (λ h. inl (h, h, refl)) (λ h. inr (h, h, refl, refl)) (named-or-not (carriesName a)))
+
+pub same-drive-turned-round : (a b : List ℕ) → sameDrive a b ≡ true → sameDrive b a ≡ true
+same-drive-turned-round a b e =
+    same-drive-when b a
+    (⊎-elim (λ w. inl (w .1, w .0, sym (w .2))) (λ w. inr (w .1, w .0, sym (w .2), sym (w .3))) (same-drive-means a b e))
+
+pub same-drive-through : (a b c : List ℕ) → sameDrive a b ≡ true → sameDrive b c ≡ true → sameDrive a c ≡ true
+same-drive-through a b c e f =
+    same-drive-when a c
+    (⊎-elim (λ w. ⊎-elim (λ v. inl (w .0, v .1, w .2 ∙ v .2)) (λ v. absurd (true≢false (sym (w .1) ∙ v .0))) (same-drive-means b c f))
+    (λ w. ⊎-elim (λ v. absurd (true≢false (sym (v .0) ∙ w .1))) (λ v. inr (w .0, v .1, w .2 ∙ v .2, w .3 ∙ v .3)) (same-drive-means b c f))
+    (same-drive-means a b e))

@@ -1,0 +1,3 @@
+-- The laws of texts and of drives, for the crates above.
+pub mod Text
+pub mod Drive

@@ -1,0 +1,92 @@
+-- Laws of turned and spaced texts, each over texts of every length.
+use mathlib.Core.Path.{_≡_, refl, ap, _∙_, sym}
+use mathlib.Core.Bool.{Bool, true, false}
+use mathlib.Core.List.{List, [], _∷_, map}
+use Prim.Native.Nat.{ℕ, zero, suc, _+_, _-_, _*_, _%_, _<_, _≤_}
+use native.Mathlib.Nat.{le-of-suc-le-suc, not-suc-le-zero}
+use native.Mathlib.Omega.{arith}
+use lib.Dec.{eqb·suc-zero}
+use lib.ListN.{length, getD, length-map}
+use Rattle.identify.specs.Text.{turned, space, spaced, shown}
+
+-- Turned twice is as it was.
+pub turned-twice : (s : List ℕ) → turned (turned s) ≡ s
+unfolding turned
+turned-twice [] = refl
+turned-twice (a ∷ []) = refl
+turned-twice (a ∷ b ∷ s) = ap (λ (t : List ℕ). a ∷ b ∷ t) (turned-twice s)
+
+-- So texts that are equal turned are equal.
+pub turned-injective : {s t : List ℕ} → turned s ≡ turned t → s ≡ t
+turned-injective {s} {t} e = sym (turned-twice s) ∙ ap turned e ∙ turned-twice t
+
+-- Turning keeps the length, and so does making zeros spaces.
+pub length-turned : (s : List ℕ) → length (turned s) ≡ length s
+unfolding turned
+length-turned [] = refl
+length-turned (a ∷ []) = refl
+length-turned (a ∷ b ∷ s) = ap (λ (n : ℕ). suc (suc n)) (length-turned s)
+
+pub length-spaced : (s : List ℕ) → length (spaced s) ≡ length s
+length-spaced s = length-map s space
+
+space-twice : (b : ℕ) → space (space b) ≡ space b
+space-twice zero = refl
+space-twice (suc b) = rw (eqb·suc-zero b, eqb·suc-zero b)
+
+-- Spaces made twice are as made once.
+pub spaced-twice : (s : List ℕ) → spaced (spaced s) ≡ spaced s
+spaced-twice [] = refl
+spaced-twice (b ∷ s) = rw (space-twice b, spaced-twice s)
+
+-- Turning commutes with what is done to each byte alone, and so with making zeros spaces.
+pub turned-map : (f : ℕ → ℕ) (s : List ℕ) → turned (map f s) ≡ map f (turned s)
+unfolding turned
+turned-map f [] = refl
+turned-map f (a ∷ []) = refl
+turned-map f (a ∷ b ∷ s) = ap (λ (t : List ℕ). f b ∷ f a ∷ t) (turned-map f s)
+
+-- The flag of the private functions: not set, the text stands as it is.
+pub shown-as-it-is : (s : List ℕ) → map (shown false) s ≡ s
+shown-as-it-is [] = refl
+shown-as-it-is (b ∷ s) = ap (λ (t : List ℕ). b ∷ t) (shown-as-it-is s)
+
+-- Byte i of a list whose bytes f maps.
+pub getD-map : (f : ℕ → ℕ) (s : List ℕ) (i : ℕ) → i < length s → getD (map f s) i 0 ≡ f (getD s i 0)
+getD-map f [] i h = absurd (not-suc-le-zero h)
+getD-map f (b ∷ s) zero h = refl
+getD-map f (b ∷ s) (suc i) h = getD-map f s i (le-of-suc-le-suc h)
+
+-- The place of the other byte of the same word.
+abbrev partner : ℕ → ℕ
+partner i = i + 1 - 2 * (i % 2)
+
+getD-turned : (s : List ℕ) (i : ℕ) → i < length s → partner i < length s → getD (turned s) i 0 ≡ getD s (partner i) 0
+unfolding turned
+getD-turned [] i h k = refl
+getD-turned (a ∷ []) zero h k = absurd (omega arith)
+getD-turned (a ∷ []) (suc i) h k = absurd (omega arith)
+getD-turned (a ∷ b ∷ s) zero h k = refl
+getD-turned (a ∷ b ∷ s) (suc zero) h k = refl
+getD-turned (a ∷ b ∷ s) (suc (suc i)) h k =
+    let e : partner (suc (suc i)) ≡ suc (suc (partner i)) = omega arith in
+    getD-turned s i (omega arith) (omega arith) ∙ ap (λ (m : ℕ). getD (a ∷ b ∷ s) m 0) (sym e)
+
+getD-last : (s : List ℕ) (i : ℕ) → i < length s → length s ≤ partner i → getD (turned s) i 0 ≡ getD s i 0
+unfolding turned
+getD-last [] i h k = refl
+getD-last (a ∷ []) i h k = refl
+getD-last (a ∷ b ∷ s) zero h k = absurd (omega arith)
+getD-last (a ∷ b ∷ s) (suc zero) h k = absurd (omega arith)
+getD-last (a ∷ b ∷ s) (suc (suc i)) h k = getD-last s i (omega arith) (omega arith)
+
+-- Byte i of a turned text whose bytes are mapped, where it has a partner and where it is a last byte with none.
+module _ (f : ℕ → ℕ) (s : List ℕ) (i : ℕ) (h : i < length s) where
+  pub turned-pair : partner i < length s → getD (map f (turned s)) i 0 ≡ f (getD s (partner i) 0)
+  turned-pair k = getD-map f (turned s) i (omega (arith, length-turned s)) ∙ ap f (getD-turned s i h k)
+
+  pub turned-last : length s ≤ partner i → getD (map f (turned s)) i 0 ≡ f (getD s i 0)
+  turned-last k = getD-map f (turned s) i (omega (arith, length-turned s)) ∙ ap f (getD-last s i h k)
+
+pub length-text : (f : ℕ → ℕ) (s : List ℕ) → length (map f (turned s)) ≡ length s
+length-text f s = length-map (turned s) f ∙ length-turned s

@@ -1,0 +1,30 @@
+-- Which drive a block speaks of: whether it carries a name, and when two blocks are the same drive.
+use mathlib.Core.Bool.{Bool, true, false, not, _&&_, _||_}
+use mathlib.Core.List.{List, [], _∷_}
+use Prim.Native.Nat.{ℕ}
+use lib.Dec.{eqb}
+use Rattle.identify.specs.Block.{serial, model, name}
+use Rattle.identify.specs.Text.{spaced}
+
+-- Some byte is not zero, so some bit is one.
+unfoldable pub someBit : List ℕ → Bool
+someBit [] = false
+someBit (byte ∷ bytes) = not (eqb byte 0) || someBit bytes
+
+-- "any bit of words 108-111 is one": the block carries a nonzero world wide name.
+unfoldable pub carriesName : List ℕ → Bool
+carriesName block = someBit (name block)
+
+-- The same bytes, byte for byte.
+unfoldable pub equal : List ℕ → List ℕ → Bool
+equal [] [] = true
+equal [] (b ∷ t) = false
+equal (a ∷ s) [] = false
+equal (a ∷ s) (b ∷ t) = eqb a b && equal s t
+
+-- "both carry a nonzero world wide name and it is the same one, or both carry none and have equal model and serial fields
+-- with zero bytes read as spaces" (demand 3)
+unfoldable pub sameDrive : List ℕ → List ℕ → Bool
+sameDrive a b =
+    carriesName a && carriesName b && equal (name a) (name b)
+    || not (carriesName a) && not (carriesName b) && equal (spaced (model a)) (spaced (model b)) && equal (spaced (serial a)) (spaced (serial b))

@@ -1,0 +1,4 @@
+-- The IDENTIFY block, as document 01 reads it.
+pub mod Block
+pub mod Text
+pub mod Drive

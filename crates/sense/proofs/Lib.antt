@@ -1,0 +1,3 @@
+-- The laws of refusals and sense data, for the crates above.
+pub mod Table
+pub mod Sense

@@ -1,0 +1,69 @@
+-- The table's rows: each rule is proved at all rows by one test that is computed.
+use mathlib.Core.Path.{_≡_, refl, sym, ap, _∙_}
+use mathlib.Core.Bool.{Bool, true, false, cond, _&&_, and-eq-true-iff}
+use mathlib.Core.List.{List, [], _∷_}
+use mathlib.Core.Logic.{⊎-elim}
+use Prim.Native.Nat.{ℕ, zero, suc, _-_, _≤_, _<_}
+use native.Mathlib.Nat.{eq-zero-or-pos, not-suc-le-zero, le-of-suc-le-suc}
+use native.Mathlib.Omega.{arith}
+use lib.Dec.{eqb}
+use lib.ListN.{length, getD, List·getD-map, List·getD-eq-default}
+use borrow.Author.Tests.{eqb-true, eq-eqb, ne-eqb}
+use Rattle.room.specs.Room.{written}
+use Rattle.sense.specs.Refusal.{table, noRow, rowOf, threeBytes, codes, refusedSense, none, busy, checkCondition}
+use Rattle.sense.specs.Sense.{senseData, nothing}
+
+-- Inside a list the default does not matter.
+inside : {A : Type 0} (l : List A) (n : ℕ) (a b : A) → n < length l → getD l n a ≡ getD l n b
+inside [] n a b h = absurd (not-suc-le-zero h)
+inside (x ∷ l) zero a b h = refl
+inside (x ∷ l) (suc n) a b h = inside l n a b (le-of-suc-le-suc h)
+
+-- The code's array is the table's last three columns.
+pub code-within : (n : ℕ) → n < 17 → getD codes n [] ≡ threeBytes (rowOf n)
+unfolding rowOf
+code-within n h = inside codes n [] (threeBytes noRow) h ∙ List·getD-map threeBytes table n noRow
+
+pub row-past : (n : ℕ) → 17 ≤ n → rowOf n ≡ noRow
+unfolding rowOf
+row-past n h = List·getD-eq-default table noRow h
+
+-- A test that passes at every number below n.
+all-below : (ℕ → Bool) → ℕ → Bool
+all-below f zero = true
+all-below f (suc n) = f n && all-below f n
+
+at : (f : ℕ → Bool) (n : ℕ) → all-below f n ≡ true → (k : ℕ) → k < n → f k ≡ true
+unfolding all-below
+at f zero e k h = absurd (not-suc-le-zero h)
+at f (suc n) e k h =
+    let both = and-eq-true-iff (f n) (all-below f n) .0 e in
+    ⊎-elim (λ z. ap f (omega arith) ∙ both .0) (λ z. at f n (both .1) k (omega arith)) (eq-zero-or-pos (n - k))
+
+-- The status goes with the key: CHECK CONDITION where there is one; else BUSY for number 10, and none.
+abbrev statusBy : ℕ → ℕ → ℕ
+statusBy n key = cond (eqb key 0) (cond (eqb n 10) busy none) checkCondition
+
+pub status-is : (n : ℕ) → rowOf n .status ≡ statusBy n (rowOf n .key)
+unfolding rowOf all-below
+status-is n =
+    ⊎-elim
+    (λ z. rw (row-past n (omega arith), ne-eqb n 10 (λ e. omega arith)))
+    (λ z. eqb-true _ _ (at (λ k. eqb (rowOf k .status) (statusBy k (rowOf k .key))) 17 refl n (omega arith)))
+    (eq-zero-or-pos (17 - n))
+
+-- What a refusal answers, by its key.
+module _ (n : ℕ) where
+  pub checks : (rowOf n .key ≡ 0 → ⊥) → rowOf n .status ≡ checkCondition
+  checks h = rw (status-is n, ne-eqb (rowOf n .key) 0 h)
+
+  pub writes : (room : List ℕ) → (rowOf n .key ≡ 0 → ⊥) → refusedSense n room ≡ written room 0 (senseData (rowOf n .key) (rowOf n .asc) (rowOf n .ascq) nothing)
+  unfolding refusedSense
+  writes room h = rw (ne-eqb (rowOf n .key) 0 h)
+
+  pub writes-nothing : (room : List ℕ) → rowOf n .key ≡ 0 → refusedSense n room ≡ room
+  unfolding refusedSense
+  writes-nothing room h = rw (eq-eqb (rowOf n .key) 0 h)
+
+  pub busy-or-none : rowOf n .key ≡ 0 → rowOf n .status ≡ cond (eqb n 10) busy none
+  busy-or-none h = rw (status-is n, eq-eqb (rowOf n .key) 0 h)

@@ -1,0 +1,89 @@
+-- The table of refusals: what each number answers.
+use mathlib.Core.Bool.{cond}
+use mathlib.Core.List.{List, [], _∷_, map}
+use Prim.Native.Nat.{ℕ}
+use lib.Dec.{eqb}
+use lib.ListN.{getD}
+use Rattle.room.specs.Room.{written}
+use Rattle.sense.specs.Sense.{nothing, senseData}
+
+-- "Status: GOOD 00h, CHECK CONDITION 02h, BUSY 08h." Where 01 says none, the number is one that SCSI does not use.
+abbrev pub good : ℕ
+good = 0x00
+
+abbrev pub checkCondition : ℕ
+checkCondition = 0x02
+
+abbrev pub busy : ℕ
+busy = 0x08
+
+abbrev pub none : ℕ
+none = 0xFF
+
+-- A row of the table; key 00 stands for no key.
+pub record Row : Type 0 where
+  pub status : ℕ
+  pub key : ℕ
+  pub asc : ℕ
+  pub ascq : ℕ
+
+abbrev pub row : ℕ → ℕ → ℕ → ℕ → Row
+row status key asc ascq = record { status = status; key = key; asc = asc; ascq = ascq }
+
+-- "one row for each number": 0 to 16. Number 0 is no refusal, and answers nothing here.
+abbrev pub table : List Row
+table =
+    row none 0x00 0x00 0x00
+    -- 1: a lent piece breaks the sizes
+    ∷ row none 0x00 0x00 0x00
+    -- 2: no command bytes, or fewer than the command's size
+    ∷ row checkCondition 0x05 0x24 0x00
+    -- 3: the opcode is not one that this entry serves
+    ∷ row checkCondition 0x05 0x20 0x00
+    -- 4: NACA; for INQUIRY also CMDDT, or a page code with EVPD zero
+    ∷ row checkCondition 0x05 0x24 0x00
+    -- 5: EVPD and a page that is not served
+    ∷ row checkCondition 0x05 0x24 0x00
+    -- 6: no IDENTIFY block
+    ∷ row checkCondition 0x02 0x04 0x00
+    -- 7: a packet drive's own page 00h is unusable
+    ∷ row checkCondition 0x0B 0x00 0x00
+    -- 8: output room is shorter than the bytes to write
+    ∷ row none 0x00 0x00 0x00
+    -- 9: PROTOCOL is 2, 7, 12, 13 or 14
+    ∷ row checkCondition 0x05 0x24 0x00
+    -- 10: an order is pending
+    ∷ row busy 0x00 0x00 0x00
+    -- 11: T_LENGTH does not fit the protocol
+    ∷ row checkCondition 0x05 0x24 0x00
+    -- 12: T_DIR does not fit the protocol
+    ∷ row checkCondition 0x05 0x24 0x00
+    -- 13: a data protocol with length 0
+    ∷ row checkCondition 0x05 0x24 0x00
+    -- 14: length above the host's declared length
+    ∷ row checkCondition 0x05 0x24 0x00
+    -- 15: completion while nothing is pending
+    ∷ row none 0x00 0x00 0x00
+    -- 16: the reader's page is not one the writer can make
+    ∷ row none 0x00 0x00 0x00
+    ∷ []
+
+-- A number that has no row answers nothing.
+abbrev pub noRow : Row
+noRow = row none 0x00 0x00 0x00
+
+unfoldable pub rowOf : ℕ → Row
+rowOf number = getD table number noRow
+
+-- "Key, ASC and ASCQ stand three bytes a row, one row for each number."
+abbrev pub threeBytes : Row → List ℕ
+threeBytes r = r .key ∷ r .asc ∷ r .ascq ∷ []
+
+abbrev pub codes : List (List ℕ)
+codes = map threeBytes table
+
+-- "A row with a key writes exactly 8 sense bytes [..] Every other row writes nothing."
+unfoldable pub refusedSense : ℕ → List ℕ → List ℕ
+refusedSense number room =
+    cond (eqb (rowOf number .key) 0x00) room
+    (written room 0 (senseData (rowOf number .key) (rowOf number .asc) (rowOf number .ascq) nothing))

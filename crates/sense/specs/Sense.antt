@@ -1,0 +1,37 @@
+-- Sense data: what a CHECK CONDITION tells the host. This is the one place that knows the bytes' form.
+use mathlib.Core.Bool.{Bool, cond}
+use mathlib.Core.List.{List, [], _∷_}
+use Prim.Native.Nat.{ℕ}
+use lib.ListN.{getD}
+
+-- What stands beside key, ASC and ASCQ: nothing, or the registers that the drive left, with EXTEND.
+pub data Told : Type 0 where
+  nothing : Told
+  registers : Bool → List ℕ → Told
+
+-- "EXTEND as 00 or 01"
+abbrev pub flag : Bool → ℕ
+flag extend = cond extend 0x01 0x00
+
+-- "With EXTEND zero the four upper bytes are 00."
+abbrev pub upper : Bool → ℕ → ℕ
+upper extend byte = cond extend byte 0x00
+
+-- "error, count high, count low, LBA low high/low, mid high/low, high high/low, device, status"
+abbrev pub shown : Bool → List ℕ → List ℕ
+shown extend lent =
+    getD lent 0 0
+    ∷ upper extend (getD lent 1 0) ∷ getD lent 2 0
+    ∷ upper extend (getD lent 3 0) ∷ getD lent 4 0
+    ∷ upper extend (getD lent 5 0) ∷ getD lent 6 0
+    ∷ upper extend (getD lent 7 0) ∷ getD lent 8 0
+    ∷ getD lent 9 0
+    ∷ getD lent 10 0
+    ∷ []
+
+-- "exactly 8 sense bytes, `72 key ASC ASCQ 00 00 00 00`"; with registers
+-- "22 bytes: `72 key ASC ASCQ 00 00 00 0E`, then `09 0C`, EXTEND .."
+unfoldable pub senseData : ℕ → ℕ → ℕ → Told → List ℕ
+senseData key asc ascq nothing = 0x72 ∷ key ∷ asc ∷ ascq ∷ 0x00 ∷ 0x00 ∷ 0x00 ∷ 0x00 ∷ []
+senseData key asc ascq (registers extend lent) =
+    0x72 ∷ key ∷ asc ∷ ascq ∷ 0x00 ∷ 0x00 ∷ 0x00 ∷ 0x0E ∷ 0x09 ∷ 0x0C ∷ flag extend ∷ shown extend lent

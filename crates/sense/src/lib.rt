@@ -1,0 +1,116 @@
+// Sense: the table of refusals, and the sense data that a refusal or an ended order leaves. The rules stand in specs/:
+// Refusal (the table, and what a row writes) and Sense (the bytes' form).
+ghost use mathlib.Core.Path.{_≡_};
+ghost use mathlib.Core.Bool.{Bool, true, false};
+ghost use mathlib.Core.List.{List};
+ghost use Prim.Native.Nat.{_<_, _≤_};
+ghost use lib.ListN.{length};
+ghost use Rattle.room.specs.Room.{written};
+ghost use Rattle.sense.specs.Sense.{senseData, nothing, registers as told, upper as Sense·upper};
+ghost use Rattle.sense.specs.Refusal.{rowOf, threeBytes, refusedSense};
+
+pub const GOOD: u8 = 0x00;
+
+pub const CHECK_CONDITION: u8 = 0x02;
+
+pub const BUSY: u8 = 0x08;
+// No status: a number that SCSI gives to none.
+pub const NONE: u8 = 0xFF;
+
+// Key, ASC and ASCQ of each refusal, by its number; key 0 where a refusal has none.
+const TABLE: [[u8; 3]; 17] = [
+    [0x00, 0x00, 0x00],
+    [0x00, 0x00, 0x00],
+    [0x05, 0x24, 0x00],
+    [0x05, 0x20, 0x00],
+    [0x05, 0x24, 0x00],
+    [0x05, 0x24, 0x00],
+    [0x02, 0x04, 0x00],
+    [0x0B, 0x00, 0x00],
+    [0x00, 0x00, 0x00],
+    [0x05, 0x24, 0x00],
+    [0x00, 0x00, 0x00],
+    [0x05, 0x24, 0x00],
+    [0x05, 0x24, 0x00],
+    [0x05, 0x24, 0x00],
+    [0x05, 0x24, 0x00],
+    [0x00, 0x00, 0x00],
+    [0x00, 0x00, 0x00],
+];
+
+// The eight bytes of sense data that tell key, ASC and ASCQ alone.
+fn put_code(sense: &mut [u8], key: u8, asc: u8, ascq: u8)
+    ensures { λ _. ⌜ now (sense .exit) ≡ written (now (sense .entry)) 0 (senseData key asc ascq nothing) ⌝ }
+{
+    let bytes = [0x72u8, key, asc, ascq, 0x00u8, 0x00u8, 0x00u8, 0x00u8];
+    room::put(sense, 0, &bytes);
+}
+
+// Key, ASC and ASCQ of a refusal, and zeros for a number that has no row.
+fn code(number: u8) -> [u8; 3]
+    ensures { λ r. ⌜ r ≡ threeBytes (rowOf number) ⌝ }
+{
+    if number < 17 {
+        return TABLE[number as usize];
+    }
+    [0x00, 0x00, 0x00]
+}
+
+// What a refusal answers: it writes the sense bytes of its row, or nothing, and gives the row's status.
+pub fn refuse(sense: &mut [u8], number: u8) -> u8
+    ensures status { λ r. ⌜ r ≡ rowOf number .status ⌝ }
+    ensures sense { λ _. ⌜ now (sense .exit) ≡ refusedSense number (now (sense .entry)) ⌝ }
+{
+    let row = code(number);
+    if row[0] != 0 {
+        put_code(sense, row[0], row[1], row[2]);
+        return CHECK_CONDITION;
+    }
+    if number == 10 {
+        return BUSY;
+    }
+    NONE
+}
+
+// An upper register byte, as EXTEND has it.
+fn upper(extend: bool, byte: u8) -> u8
+    ensures { λ r. ⌜ r ≡ Sense·upper extend byte ⌝ }
+{
+    if extend {
+        return byte;
+    }
+    0
+}
+
+// Writes the sense data that tell the drive's registers beside key, ASC and ASCQ.
+pub fn report(sense: &mut [u8], key: u8, asc: u8, ascq: u8, extend: bool, registers: &[u8])
+    requires { ⌜ length (now registers) ≡ 11 ⌝ }
+    ensures { λ _. ⌜ now (sense .exit) ≡ written (now (sense .entry)) 0 (senseData key asc ascq (told extend (now (registers .entry)))) ⌝ }
+{
+    let bytes = [
+        0x72u8,
+        key,
+        asc,
+        ascq,
+        0x00u8,
+        0x00u8,
+        0x00u8,
+        0x0Eu8,
+        // the status return descriptor
+        0x09u8,
+        0x0Cu8,
+        upper(extend, 0x01),
+        registers[0],
+        upper(extend, registers[1]),
+        registers[2],
+        upper(extend, registers[3]),
+        registers[4],
+        upper(extend, registers[5]),
+        registers[6],
+        upper(extend, registers[7]),
+        registers[8],
+        registers[9],
+        registers[10],
+    ];
+    room::put(sense, 0, &bytes);
+}
