@@ -1,0 +1,36 @@
+-- `labels`: each block once.
+use mathlib.Core.Path.{_≡_}
+use Prim.Native.Nat.{_≤_, _-_}
+use lib.ListN.{length}
+use borrow.Author.Needs.{needs}
+use Rattle.labels.proofs.labels.Statement.{statement}
+use Rattle.labels.proofs.labels.Tie as tie
+
+abbrev Inv-loop : tie.InvT-loop
+Inv-loop blocks count i₀ i = i ≤ count
+
+abbrev μ-loop : tie.MeasureT-loop
+μ-loop blocks count i₀ i = count - i
+
+loop-holds : tie.Need-loop-holds Inv-loop μ-loop
+loop-holds c = search needs
+
+label-requires : tie.Need-label-requires Inv-loop μ-loop
+label-requires c κs = search needs
+
+add-i : tie.Need-add-i Inv-loop μ-loop
+add-i c = search needs
+
+loop-less : tie.Need-loop-less Inv-loop μ-loop
+loop-less c = search needs
+
+loop-again : tie.Need-loop-again Inv-loop μ-loop
+loop-again c = search needs
+
+returns : tie.Need-returns Inv-loop μ-loop
+returns c = search needs
+
+pub labels-spec : {M : Type 1} → statement M
+labels-spec =
+    tie.close
+    (tie.spec Inv-loop μ-loop loop-holds label-requires add-i loop-less loop-again returns)
