@@ -1,3 +1,4 @@
--- The laws of texts and of drives, for the crates above.
+-- The laws of blocks, texts and drives, for the crates above.
+pub mod Block
 pub mod Text
 pub mod Drive

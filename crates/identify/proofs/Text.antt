@@ -6,7 +6,7 @@ use Prim.Native.Nat.{ℕ, zero, suc, _+_, _-_, _*_, _%_, _<_, _≤_}
 use native.Mathlib.Nat.{le-of-suc-le-suc, not-suc-le-zero}
 use native.Mathlib.Omega.{arith}
 use lib.Dec.{eqb·suc-zero}
-use lib.ListN.{length, getD, length-map}
+use lib.ListN.{length, getD, take, length-map}
 use Rattle.identify.specs.Text.{turned, space, spaced, shown}
 
 -- Turned twice is as it was.
@@ -45,6 +45,17 @@ unfolding turned
 turned-map f [] = refl
 turned-map f (a ∷ []) = refl
 turned-map f (a ∷ b ∷ s) = ap (λ (t : List ℕ). f b ∷ f a ∷ t) (turned-map f s)
+
+double : (k : ℕ) → 2 * suc k ≡ suc (suc (2 * k))
+double k = omega arith
+
+-- The front of a turned text, cut after a whole number of words, is the front turned.
+pub take-turned : (k : ℕ) (s : List ℕ) → take (2 * k) (turned s) ≡ turned (take (2 * k) s)
+unfolding turned
+take-turned zero s = refl
+take-turned (suc k) [] = rw (double k)
+take-turned (suc k) (a ∷ []) = rw (double k)
+take-turned (suc k) (a ∷ b ∷ s) = rw (double k) (ap (λ (t : List ℕ). b ∷ a ∷ t) (take-turned k s))
 
 -- The flag of the private functions: not set, the text stands as it is.
 pub shown-as-it-is : (s : List ℕ) → map (shown false) s ≡ s

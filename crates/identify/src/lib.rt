@@ -5,7 +5,7 @@ ghost use mathlib.Core.Bool.{_&&_};
 ghost use mathlib.Core.List.{List, map};
 ghost use Prim.Native.Nat.{_<_, _≤_, _-_};
 ghost use lib.ListN.{length, getD, take, drop};
-ghost use Rattle.room.specs.Room.{written};
+ghost use Rattle.room.specs.Room.{Wrote};
 ghost use Rattle.identify.specs.Block.{word as Block·word, serial as Block·serial, model as Block·model, name as Block·name};
 ghost use Rattle.identify.specs.Text.{turned, spaced, shown as Text·shown};
 ghost use Rattle.identify.specs.Drive.{someBit, carriesName, equal, sameDrive};
@@ -94,7 +94,7 @@ fn turned_at(text: &[u8], i: usize, spaced: bool) -> u8
 }
 
 fn put_text(room: &mut [u8], at: usize, text: &[u8], spaced: bool)
-    ensures { λ _. ⌜ now (room .exit) ≡ written (now (room .entry)) at (map (Text·shown spaced) (turned (now (text .entry)))) ⌝ }
+    ensures { λ _. ⌜ Wrote (now (room .entry)) at (map (Text·shown spaced) (turned (now (text .entry)))) (now (room .exit)) ⌝ }
 {
     let n = room::fit(room.len(), at, text.len());
     let mut i = 0;
@@ -106,14 +106,14 @@ fn put_text(room: &mut [u8], at: usize, text: &[u8], spaced: bool)
 
 // Writes a text turned, its zero bytes kept. The name's words so go high byte first.
 pub fn put_turned(room: &mut [u8], at: usize, text: &[u8])
-    ensures { λ _. ⌜ now (room .exit) ≡ written (now (room .entry)) at (turned (now (text .entry))) ⌝ }
+    ensures { λ _. ⌜ Wrote (now (room .entry)) at (turned (now (text .entry))) (now (room .exit)) ⌝ }
 {
     put_text(room, at, text, false);
 }
 
 // Writes a text turned, its zero bytes as spaces.
 pub fn put_spaced(room: &mut [u8], at: usize, text: &[u8])
-    ensures { λ _. ⌜ now (room .exit) ≡ written (now (room .entry)) at (spaced (turned (now (text .entry)))) ⌝ }
+    ensures { λ _. ⌜ Wrote (now (room .entry)) at (spaced (turned (now (text .entry)))) (now (room .exit)) ⌝ }
 {
     put_text(room, at, text, true);
 }

@@ -2,7 +2,6 @@
 // board shows them, its world wide name, and the place of the first block of the same drive.
 use libc::STDERR_FILENO;
 use libc::STDOUT_FILENO;
-
 ghost use Prim.Native.Nat.{_+_, _*_, _≤_, _<_};
 ghost use mathlib.Core.Path.{_≡_};
 ghost use lib.ListN.{length};
@@ -106,7 +105,10 @@ fn main() {
         return;
     }
     if n % 512 != 0 {
-        io::write_all(STDERR_FILENO, b"labels: the input is no whole number of blocks of 512 bytes\n");
+        io::write_all(
+            STDERR_FILENO,
+            b"labels: the input is no whole number of blocks of 512 bytes\n",
+        );
         return;
     }
     labels(&buffer[..n]);

@@ -8,7 +8,7 @@ use native.Mathlib.Numerals.{add-one}
 use native.Mathlib.Omega.{arith}
 use lib.ListN.{length, getD, set, take, drop, length-set, drop-of-length-le}
 use lib.Seq.{set-out, drop-cons, drop-nil, length-sets, length-take-le}
-use Rattle.room.specs.Room.{written, fitting}
+use Rattle.room.specs.Room.{written, Wrote, fitting}
 
 -- A write keeps the room's length.
 pub length-written : (r : List ℕ) (at : ℕ) (s : List ℕ) → length (written r at s) ≡ length r
@@ -25,6 +25,15 @@ written-append r at [] t = ap (λ (k : ℕ). written r k t) (omega arith)
 written-append r at (b ∷ s) t =
     let e : at + length (b ∷ s) ≡ suc at + length s = omega arith in
     rw e (written-append (set r at b) (suc at) s t)
+
+-- And so where the second starts right behind the first.
+pub beside : {r o p s t : List ℕ} {at k : ℕ} → Wrote r at s o → Wrote o k t p → k ≡ at + length s → Wrote r at (s ++ t) p
+beside {r} {o} {p} {s} {t} {at} {k} w x l =
+    record {
+      leaves =
+          x .leaves ∙ ap (λ (n : ℕ). written o n t) l ∙ ap (λ (q : List ℕ). written q (at + length s) t) (w .leaves)
+          ∙ written-append r at s t;
+    }
 
 written-cons : (x : ℕ) (r : List ℕ) (at : ℕ) (s : List ℕ) → written (x ∷ r) (suc at) s ≡ x ∷ written r at s
 written-cons x r at [] = refl
@@ -44,10 +53,10 @@ written-is (x ∷ r) (suc at) s = rw (suc-sub-suc, suc-add) (written-cons x r at
 
 -- The first n bytes of a room, lent to a writer of a page that is no shorter, and the rest of the room behind them:
 -- the page's first n bytes, and the room untouched past n.
-pub cut : (n : ℕ) (page r : List ℕ) → n ≤ length page → n ≤ length r → written (take n r) 0 page ++ drop n r ≡ take n page ++ drop n r
-cut n page r hp hr =
+pub cut : (n : ℕ) (page r : List ℕ) {o : List ℕ} → Wrote (take n r) 0 page o → n ≤ length page → n ≤ length r → o ++ drop n r ≡ take n page ++ drop n r
+cut n page r w hp hr =
     let l : length (take n r) ≡ n = length-take-le n r hr in
-    rw (written-front (take n r) page, l, drop-of-length-le (take n r) {i = length page} (omega arith), append-nil)
+    rw (w .leaves, written-front (take n r) page, l, drop-of-length-le (take n r) {i = length page} (omega arith), append-nil)
 
 -- A loop that writes s, of which n bytes fit, before its turn i: what is left to write takes the room to where it is to be.
 pub record Writing (r : List ℕ) (at : ℕ) (s : List ℕ) (n : ℕ) (o : List ℕ) (i : ℕ) : Type 0 where
@@ -76,7 +85,10 @@ turn {r} {s} {o} {at} {n} {i} v w h e =
       left = rw (e, k, add-one) (rw (drop-cons s i 0 l) at (w .left));
     }
 
-pub done : {r s o : List ℕ} {at n i : ℕ} → Writing r at s n o i → n ≤ i → o ≡ written r at s
+pub done : {r s o : List ℕ} {at n i : ℕ} → Writing r at s n o i → n ≤ i → Wrote r at s o
 done {r} {s} {o} {at} {n} {i} w h =
-    ⊎-elim (λ z. rw (drop-of-length-le s {i = i} (omega (arith, w .fits))) at (w .left))
-    (λ z. sym (written-out o (at + i) (drop i s) (omega (arith, w .fits))) ∙ w .left) (eq-zero-or-pos (length s - i))
+    record {
+      leaves =
+          ⊎-elim (λ z. rw (drop-of-length-le s {i = i} (omega (arith, w .fits))) at (w .left))
+          (λ z. sym (written-out o (at + i) (drop i s) (omega (arith, w .fits))) ∙ w .left) (eq-zero-or-pos (length s - i));
+    }

@@ -1,5 +1,6 @@
 -- What a write leaves in lent room. No writer asks for room: it stores what fits, and nothing else changes.
 -- So a reply that is cut is the writer's work in a shorter room, and no writer knows of the cut.
+use mathlib.Core.Path.{_≡_}
 use mathlib.Core.List.{List}
 use Prim.Native.Nat.{ℕ, _-_, min}
 use lib.Seq.{sets}
@@ -7,6 +8,10 @@ use lib.Seq.{sets}
 -- The room with the bytes of `s` stored one after the other from the place `at` on; a store past the end does nothing.
 abbrev pub written : List ℕ → ℕ → List ℕ → List ℕ
 written room at s = sets room at s
+
+-- A writer that was lent `before` stored `s` from `at` on, and left `after`.
+pub record Wrote (before : List ℕ) (at : ℕ) (s : List ℕ) (after : List ℕ) : Type 0 where
+  pub leaves : after ≡ written before at s
 
 -- How many of n bytes fit into a room of this length from the place `at` on.
 abbrev pub fitting : ℕ → ℕ → ℕ → ℕ

@@ -4,7 +4,7 @@ ghost use mathlib.Core.Path.{_≡_};
 ghost use mathlib.Core.List.{List};
 ghost use Prim.Native.Nat.{_+_};
 ghost use lib.ListN.{length};
-ghost use Rattle.room.specs.Room.{written, fitting};
+ghost use Rattle.room.specs.Room.{Wrote, fitting};
 
 // How many of n bytes fit into a room of this length from a place on.
 pub fn fit(room: usize, at: usize, n: usize) -> usize
@@ -21,7 +21,7 @@ pub fn fit(room: usize, at: usize, n: usize) -> usize
 
 // Writes the bytes of a slice from a place on.
 pub fn put(room: &mut [u8], at: usize, bytes: &[u8])
-    ensures { λ _. ⌜ now (room .exit) ≡ written (now (room .entry)) at (now (bytes .entry)) ⌝ }
+    ensures { λ _. ⌜ Wrote (now (room .entry)) at (now (bytes .entry)) (now (room .exit)) ⌝ }
 {
     let n = fit(room.len(), at, bytes.len());
     let mut i = 0;

@@ -5,7 +5,7 @@ ghost use mathlib.Core.Bool.{Bool, true, false};
 ghost use mathlib.Core.List.{List};
 ghost use Prim.Native.Nat.{_<_, _≤_};
 ghost use lib.ListN.{length};
-ghost use Rattle.room.specs.Room.{written};
+ghost use Rattle.room.specs.Room.{Wrote};
 ghost use Rattle.sense.specs.Sense.{senseData, nothing, registers as told, upper as Sense·upper};
 ghost use Rattle.sense.specs.Refusal.{rowOf, threeBytes, refusedSense};
 
@@ -40,7 +40,7 @@ const TABLE: [[u8; 3]; 17] = [
 
 // The eight bytes of sense data that tell key, ASC and ASCQ alone.
 fn put_code(sense: &mut [u8], key: u8, asc: u8, ascq: u8)
-    ensures { λ _. ⌜ now (sense .exit) ≡ written (now (sense .entry)) 0 (senseData key asc ascq nothing) ⌝ }
+    ensures { λ _. ⌜ Wrote (now (sense .entry)) 0 (senseData key asc ascq nothing) (now (sense .exit)) ⌝ }
 {
     let bytes = [0x72u8, key, asc, ascq, 0x00u8, 0x00u8, 0x00u8, 0x00u8];
     room::put(sense, 0, &bytes);
@@ -85,7 +85,7 @@ fn upper(extend: bool, byte: u8) -> u8
 // Writes the sense data that tell the drive's registers beside key, ASC and ASCQ.
 pub fn report(sense: &mut [u8], key: u8, asc: u8, ascq: u8, extend: bool, registers: &[u8])
     requires { ⌜ length (now registers) ≡ 11 ⌝ }
-    ensures { λ _. ⌜ now (sense .exit) ≡ written (now (sense .entry)) 0 (senseData key asc ascq (told extend (now (registers .entry)))) ⌝ }
+    ensures { λ _. ⌜ Wrote (now (sense .entry)) 0 (senseData key asc ascq (told extend (now (registers .entry)))) (now (sense .exit)) ⌝ }
 {
     let bytes = [
         0x72u8,

@@ -38,7 +38,7 @@ returns c =
     let e = w .before .code .ensures in
     let key : getD (w .before .code .result) 0 0 ≡ rowOf number .key = ap (λ (l : List ℕ). getD l 0 0) e in
     let some : rowOf number .key ≡ 0 → ⊥ = λ z. w .if1 .taken (key ∙ z) in
-    (sym (checks number some), rw e at (c .before .before .put-code .ensures) ∙ sym (writes number _ some))
+    (sym (checks number some), rw e at (c .before .before .put-code .ensures .leaves) ∙ sym (writes number _ some))
 
 returns-2 : tie.Need-returns-2
 returns-2 c =

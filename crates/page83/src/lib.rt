@@ -1,0 +1,54 @@
+// Page 83h: the page that names a drive, for whoever has a block and room. The rule stands in specs/Page83.
+ghost use mathlib.Core.Path.{_≡_};
+ghost use mathlib.Core.List.{List, _++_};
+ghost use Prim.Native.Nat.{_≤_};
+ghost use lib.ListN.{length};
+ghost use Rattle.room.specs.Room.{Wrote};
+ghost use Rattle.identify.specs.Block.{serial, model, name};
+ghost use Rattle.identify.specs.Text.{turned, spaced};
+ghost use Rattle.page83.specs.Page83.{page83, namePage, textPage};
+
+// The page of a drive that carries a name.
+fn put_name(room: &mut [u8], block: &[u8])
+    ensures { λ _. ⌜ Wrote (now (room .entry)) 0 (namePage (turned (name (now (block .entry))))) (now (room .exit)) ⌝ }
+{
+    let head = [0x00u8, 0x83u8, 0x00u8, 0x0Cu8, 0x01u8, 0x03u8, 0x00u8, 0x08u8];
+    room::put(room, 0, &head);
+    identify::put_turned(room, 8, identify::name(block));
+}
+
+// The page of a drive that carries none.
+fn put_texts(room: &mut [u8], block: &[u8])
+    requires { ⌜ length (now block) ≡ 512 ⌝ }
+    ensures { λ _. ⌜ Wrote (now (room .entry)) 0 (textPage (spaced (turned (model (now (block .entry))))) (spaced (turned (serial (now (block .entry)))))) (now (room .exit)) ⌝ }
+{
+    let head = [
+        0x00u8, 0x83u8, 0x00u8, 0x48u8, 0x02u8, 0x01u8, 0x00u8, 0x44u8, b'A', b'T', b'A', b' ', b' ', b' ', b' ', b' ',
+    ];
+    room::put(room, 0, &head);
+    identify::put_spaced(room, 16, identify::model(block));
+    identify::put_spaced(room, 56, identify::serial(block));
+}
+
+// Writes the page of a block, as much of it as fits.
+pub fn put(room: &mut [u8], block: &[u8])
+    requires { ⌜ length (now block) ≡ 512 ⌝ }
+    ensures { λ _. ⌜ Wrote (now (room .entry)) 0 (page83 (now (block .entry))) (now (room .exit)) ⌝ }
+{
+    if identify::carries_name(block) {
+        put_name(room, block);
+        return;
+    }
+    put_texts(room, block);
+}
+
+// The page's size.
+pub fn size(block: &[u8]) -> usize
+    requires { ⌜ length (now block) ≡ 512 ⌝ }
+    ensures { λ r. ⌜ r ≡ length (page83 (now (block .entry))) ⌝ }
+{
+    if identify::carries_name(block) {
+        return 16;
+    }
+    76
+}
