@@ -9,3 +9,7 @@ use Rattle.identify.specs.Block.{words}
 -- A field that the block holds whole has two bytes a word.
 pub length-words : (first last : ℕ) (block : List ℕ) → 2 * (last + 1) ≤ length block → length (words first last block) ≡ 2 * (last + 1 - first)
 length-words first last block h = simp (length-take, length-drop) (omega arith)
+
+-- And no field has more.
+pub words-at-most : (first last : ℕ) (block : List ℕ) → length (words first last block) ≤ 2 * (last + 1 - first)
+words-at-most first last block = simp length-take (omega arith)

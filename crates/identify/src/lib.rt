@@ -3,8 +3,8 @@
 ghost use mathlib.Core.Path.{_≡_};
 ghost use mathlib.Core.Bool.{_&&_};
 ghost use mathlib.Core.List.{List, map};
-ghost use Prim.Native.Nat.{_<_, _≤_, _-_};
-ghost use lib.ListN.{length, getD, take, drop};
+ghost use Prim.Native.Nat.{_<_};
+ghost use lib.ListN.{length, getD};
 ghost use Rattle.room.specs.Room.{Wrote};
 ghost use Rattle.identify.specs.Block.{word as Block·word, serial as Block·serial, model as Block·model, name as Block·name};
 ghost use Rattle.identify.specs.Text.{turned, spaced, shown as Text·shown};
@@ -16,57 +16,33 @@ fn wide(byte: u8) -> u16
     byte as u16
 }
 
-// The byte at a place, and zero past the end.
-fn byte(block: &[u8], at: usize) -> u8
-    ensures { λ r. ⌜ r ≡ getD (now (block .entry)) at 0 ⌝ }
-{
-    if at < block.len() {
-        return block[at];
-    }
-    0
-}
-
 // Word w of a block.
 pub fn word(block: &[u8], w: u8) -> u16
     ensures { λ r. ⌜ r ≡ Block·word (now (block .entry)) w ⌝ }
 {
     let low = 2 * (w as usize);
-    wide(byte(block, low)) + 256 * wide(byte(block, low + 1))
-}
-
-// The bytes from one place up to another, as far as the block has them.
-fn part(block: &[u8], from: usize, to: usize) -> &[u8]
-    requires { ⌜ from ≤ to ⌝ }
-    ensures { λ r. ⌜ now r ≡ take (to - from) (drop from (now (block .entry))) ⌝ }
-{
-    if block.len() <= from {
-        return &block[..0];
-    }
-    if block.len() <= to {
-        return &block[from..];
-    }
-    &block[from..to]
+    wide(rules::byte(block, low)) + 256 * wide(rules::byte(block, low + 1))
 }
 
 // The serial number as it stands in the block.
 pub fn serial(block: &[u8]) -> &[u8]
     ensures { λ r. ⌜ now r ≡ Block·serial (now (block .entry)) ⌝ }
 {
-    part(block, 20, 40)
+    rules::part(block, 20, 40)
 }
 
 // The model as it stands in the block.
 pub fn model(block: &[u8]) -> &[u8]
     ensures { λ r. ⌜ now r ≡ Block·model (now (block .entry)) ⌝ }
 {
-    part(block, 54, 94)
+    rules::part(block, 54, 94)
 }
 
 // The name as it stands in the block.
 pub fn name(block: &[u8]) -> &[u8]
     ensures { λ r. ⌜ now r ≡ Block·name (now (block .entry)) ⌝ }
 {
-    part(block, 216, 224)
+    rules::part(block, 216, 224)
 }
 
 fn shown(spaced: bool, byte: u8) -> u8
@@ -118,7 +94,8 @@ pub fn put_spaced(room: &mut [u8], at: usize, text: &[u8])
     put_text(room, at, text, true);
 }
 
-fn some_bit(bytes: &[u8]) -> bool
+// Whether some bit of some byte is one.
+pub fn some_bit(bytes: &[u8]) -> bool
     ensures { λ r. ⌜ r ≡ someBit (now (bytes .entry)) ⌝ }
 {
     let mut i = 0;
@@ -155,10 +132,17 @@ fn alike(a: &[u8], b: &[u8], spaced: bool) -> bool
     true
 }
 
+// Whether two runs of bytes are the same.
+pub fn same_bytes(a: &[u8], b: &[u8]) -> bool
+    ensures { λ r. ⌜ r ≡ equal (now (a .entry)) (now (b .entry)) ⌝ }
+{
+    alike(a, b, false)
+}
+
 fn same_name(a: &[u8], b: &[u8]) -> bool
     ensures { λ r. ⌜ r ≡ equal (Block·name (now (a .entry))) (Block·name (now (b .entry))) ⌝ }
 {
-    alike(name(a), name(b), false)
+    same_bytes(name(a), name(b))
 }
 
 fn same_texts(a: &[u8], b: &[u8]) -> bool

@@ -6,33 +6,63 @@ ghost use lib.ListN.{length};
 ghost use Rattle.room.specs.Room.{Wrote};
 ghost use Rattle.identify.specs.Block.{serial, model, name};
 ghost use Rattle.identify.specs.Text.{turned, spaced};
-ghost use Rattle.page83.specs.Page83.{page83, namePage, textPage};
+ghost use Rattle.page83.specs.Page83.{page83, namePage, textPage, outcome, write as Page83·write};
+
+// What comes back of the writer: the refusal's number or 0, and how many bytes were written.
+#[repr(C)]
+pub struct Written {
+    pub number: u8,
+    pub count: usize,
+}
 
 // The page of a drive that carries a name.
 fn put_name(room: &mut [u8], block: &[u8])
     ensures { λ _. ⌜ Wrote (now (room .entry)) 0 (namePage (turned (name (now (block .entry))))) (now (room .exit)) ⌝ }
 {
-    let head = [0x00u8, 0x83u8, 0x00u8, 0x0Cu8, 0x01u8, 0x03u8, 0x00u8, 0x08u8];
+    let head = [
+        0x00u8,
+        0x83u8,
+        0x00u8,
+        0x0Cu8,
+        0x01u8,
+        0x03u8,
+        0x00u8,
+        0x08u8,
+    ];
     room::put(room, 0, &head);
     identify::put_turned(room, 8, identify::name(block));
 }
 
 // The page of a drive that carries none.
 fn put_texts(room: &mut [u8], block: &[u8])
-    requires { ⌜ length (now block) ≡ 512 ⌝ }
     ensures { λ _. ⌜ Wrote (now (room .entry)) 0 (textPage (spaced (turned (model (now (block .entry))))) (spaced (turned (serial (now (block .entry)))))) (now (room .exit)) ⌝ }
 {
     let head = [
-        0x00u8, 0x83u8, 0x00u8, 0x48u8, 0x02u8, 0x01u8, 0x00u8, 0x44u8, b'A', b'T', b'A', b' ', b' ', b' ', b' ', b' ',
+        0x00u8,
+        0x83u8,
+        0x00u8,
+        0x48u8,
+        0x02u8,
+        0x01u8,
+        0x00u8,
+        0x44u8,
+        b'A',
+        b'T',
+        b'A',
+        b' ',
+        b' ',
+        b' ',
+        b' ',
+        b' ',
     ];
     room::put(room, 0, &head);
-    identify::put_spaced(room, 16, identify::model(block));
-    identify::put_spaced(room, 56, identify::serial(block));
+    let model = identify::model(block);
+    identify::put_spaced(room, 16, model);
+    identify::put_spaced(room, 16 + model.len(), identify::serial(block));
 }
 
 // Writes the page of a block, as much of it as fits.
 pub fn put(room: &mut [u8], block: &[u8])
-    requires { ⌜ length (now block) ≡ 512 ⌝ }
     ensures { λ _. ⌜ Wrote (now (room .entry)) 0 (page83 (now (block .entry))) (now (room .exit)) ⌝ }
 {
     if identify::carries_name(block) {
@@ -44,11 +74,31 @@ pub fn put(room: &mut [u8], block: &[u8])
 
 // The page's size.
 pub fn size(block: &[u8]) -> usize
-    requires { ⌜ length (now block) ≡ 512 ⌝ }
     ensures { λ r. ⌜ r ≡ length (page83 (now (block .entry))) ⌝ }
 {
     if identify::carries_name(block) {
-        return 16;
+        return 8 + identify::name(block).len();
     }
-    76
+    16 + identify::model(block).len() + identify::serial(block).len()
+}
+
+// Writes the whole page of a block into room that holds it.
+pub fn write(block: &[u8], room: &mut [u8]) -> Written
+    ensures { λ r. ⌜ outcome r (now (room .exit)) ≡ Page83·write (now (block .entry)) (now (room .entry)) ⌝ }
+{
+    if block.len() != 512 {
+        return Written {
+            number: 1,
+            count: 0,
+        };
+    }
+    let count = size(block);
+    if room.len() < count {
+        return Written {
+            number: 8,
+            count: 0,
+        };
+    }
+    put(room, block);
+    Written { number: 0, count }
 }

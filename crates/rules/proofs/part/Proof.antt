@@ -5,14 +5,14 @@ use Prim.Native.Nat.{_-_}
 use lib.ListN.{length, drop, length-drop, drop-of-length-le}
 use lib.Seq.{take-all, take-nil}
 use borrow.Author.Needs.{needs}
-use Rattle.identify.proofs.part.Statement.{statement}
-use Rattle.identify.proofs.part.Tie as tie
+use Rattle.rules.proofs.part.Statement.{statement}
+use Rattle.rules.proofs.part.Tie as tie
 
 slice-aggregate-result : tie.Need-slice-aggregate-result
 slice-aggregate-result c = search needs
 
 returns : tie.Need-returns
-returns c = let a = c .before .before .args in rw (drop-of-length-le (a .block .now) {i = a .from} (c .before .if1 .taken), take-nil)
+returns c = let a = c .before .before .args in rw (drop-of-length-le (a .bytes .now) {i = a .from} (c .before .if1 .taken), take-nil)
 
 sub-result : tie.Need-sub-result
 sub-result c = search needs
@@ -26,9 +26,9 @@ part-result-end c = search needs
 returns-2 : tie.Need-returns-2
 returns-2 c =
     let a = c .before .before .before .args in
-    let rest = drop (a .from) (a .block .now) in
-    let l = length-drop (a .from) (a .block .now) in
-    take-all (length (a .block .now) - a .from) rest (omega arith) ∙ sym (take-all (a .to - a .from) rest (omega arith))
+    let rest = drop (a .from) (a .bytes .now) in
+    let l = length-drop (a .from) (a .bytes .now) in
+    take-all (length (a .bytes .now) - a .from) rest (omega arith) ∙ sym (take-all (a .to - a .from) rest (omega arith))
 
 sub-result-2 : tie.Need-sub-result-2
 sub-result-2 c = search needs

@@ -1,0 +1,112 @@
+-- `put_page`: the page that the tests lead to.
+use mathlib.Core.Path.{_∙_, sym}
+use borrow.Author.Tests.{eq-eqb, ne-eqb}
+use Rattle.inquiry.specs.Inquiry.{page}
+use borrow.Author.Needs.{needs}
+use Rattle.inquiry.proofs.put_page.Statement.{statement}
+use Rattle.inquiry.proofs.put_page.Tie as tie
+use Rattle.page83.proofs.put.Reads as put-reads′
+
+packet-drive-requires : tie.Need-packet-drive-requires
+packet-drive-requires c κs = search needs
+
+standard-asked-requires : tie.Need-standard-asked-requires
+standard-asked-requires c κs = search needs
+
+put-standard-requires : tie.Need-put-standard-requires
+put-standard-requires c κs = search needs
+
+same-length : tie.Need-same-length
+same-length c = search needs
+
+returns : tie.Need-returns
+unfolding page
+returns c = rw (← c .before .before .before .before .before .before .packet-drive .ensures, sym (c .before .before .before .before .before .standard-asked .ensures) ∙ c .before .before .before .before .if1 .taken) (c .before .before .put-standard .ensures)
+
+shared-slice-read-if2 : tie.Need-shared-slice-read-if2
+shared-slice-read-if2 c = search needs
+
+put-requires : tie.Need-put-requires
+put-requires c κs =
+    rw (eq-eqb _ _ (c .before .before .if2 .taken), sym (c .before .before .before .before .before .before .packet-drive .ensures) ∙ c .before .if3 .taken) at (c .before .before .before .before .before .before .before .before .before .before .before .before .before .pre .reply)
+
+same-length-2 : tie.Need-same-length-2
+same-length-2 c = search needs
+
+returns-2 : tie.Need-returns-2
+unfolding page
+returns-2 c = rw (← c .before .before .before .before .before .before .before .before .before .packet-drive .ensures, sym (c .before .before .before .before .before .before .before .before .standard-asked .ensures) ∙ c .before .before .before .before .before .before .before .if1 .left, eq-eqb _ _ (c .before .before .before .before .before .if2 .taken), c .before .before .before .before .if3 .taken) (c .before .before .put .ensures)
+
+put-supported-requires : tie.Need-put-supported-requires
+put-supported-requires c κs = search needs
+
+same-length-3 : tie.Need-same-length-3
+same-length-3 c = search needs
+
+returns-3 : tie.Need-returns-3
+unfolding page
+returns-3 c = rw (← c .before .before .before .before .before .before .before .before .before .packet-drive .ensures, sym (c .before .before .before .before .before .before .before .before .standard-asked .ensures) ∙ c .before .before .before .before .before .before .before .if1 .left, eq-eqb _ _ (c .before .before .before .before .before .if2 .taken), c .before .before .before .before .if3 .left) (c .before .before .put-supported .ensures)
+
+shared-slice-read-if4 : tie.Need-shared-slice-read-if4
+shared-slice-read-if4 c = search needs
+
+put-serial-requires : tie.Need-put-serial-requires
+put-serial-requires c κs = search needs
+
+same-length-4 : tie.Need-same-length-4
+same-length-4 c = search needs
+
+returns-4 : tie.Need-returns-4
+unfolding page
+returns-4 c = rw (← c .before .before .before .before .before .before .before .before .before .before .packet-drive .ensures, sym (c .before .before .before .before .before .before .before .before .before .standard-asked .ensures) ∙ c .before .before .before .before .before .before .before .before .if1 .left, ne-eqb _ _ (c .before .before .before .before .before .before .if2 .left), eq-eqb _ _ (c .before .before .before .before .if4 .taken)) (c .before .before .put-serial .ensures)
+
+shared-slice-read-if5 : tie.Need-shared-slice-read-if5
+shared-slice-read-if5 c = search needs
+
+put-requires-2 : tie.Need-put-requires-2
+put-requires-2 c κs = search needs
+
+same-length-5 : tie.Need-same-length-5
+same-length-5 c = search needs
+
+returns-5 : tie.Need-returns-5
+unfolding page
+returns-5 c = rw (← c .before .before .before .before .before .before .before .before .before .before .before .before .packet-drive .ensures, sym (c .before .before .before .before .before .before .before .before .before .before .before .standard-asked .ensures) ∙ c .before .before .before .before .before .before .before .before .before .before .if1 .left, ne-eqb _ _ (c .before .before .before .before .before .before .before .before .if2 .left), ne-eqb _ _ (c .before .before .before .before .before .before .if4 .left), eq-eqb _ _ (c .before .before .before .before .if5 .taken)) (c .before .before .put2 .ensures)
+
+put-information-requires : tie.Need-put-information-requires
+put-information-requires c κs = (c .before .before .before .before .before .before .before .before .before .before .before .before .before .before .before .before .pre .texts, c .before .before .before .before .before .before .before .before .before .before .before .before .before .before .before .before .pre .signature)
+
+same-length-6 : tie.Need-same-length-6
+same-length-6 c = search needs
+
+returns-6 : tie.Need-returns-6
+unfolding page
+returns-6 c = rw (← c .before .before .before .before .before .before .before .before .before .before .before .before .packet-drive .ensures, sym (c .before .before .before .before .before .before .before .before .before .before .before .standard-asked .ensures) ∙ c .before .before .before .before .before .before .before .before .before .before .if1 .left, ne-eqb _ _ (c .before .before .before .before .before .before .before .before .if2 .left), ne-eqb _ _ (c .before .before .before .before .before .before .if4 .left), ne-eqb _ _ (c .before .before .before .before .if5 .left)) (c .before .before .put-information .ensures)
+
+pub put-page-spec : {M : Type 1} → statement M
+put-page-spec =
+    tie.close
+    (tie.spec
+    packet-drive-requires
+    standard-asked-requires
+    put-standard-requires
+    same-length
+    returns
+    shared-slice-read-if2
+    put-requires
+    same-length-2
+    returns-2
+    put-supported-requires
+    same-length-3
+    returns-3
+    shared-slice-read-if4
+    put-serial-requires
+    same-length-4
+    returns-4
+    shared-slice-read-if5
+    put-requires-2
+    same-length-5
+    returns-5
+    put-information-requires
+    same-length-6
+    returns-6)

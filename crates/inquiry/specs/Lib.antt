@@ -1,0 +1,3 @@
+-- INQUIRY, as document 01 answers it: the command's fields, the entry.
+pub mod Command
+pub mod Inquiry

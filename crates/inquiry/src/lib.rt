@@ -1,0 +1,123 @@
+// Inquiry: the entry that answers INQUIRY. The rules stand in specs/: Command (the fields) and Inquiry (the checks in the
+// table's order, and the outcome).
+mod checks;
+
+ghost use mathlib.Core.Path.{_≡_};
+ghost use mathlib.Core.List.{List};
+ghost use Rattle.room.specs.Room.{Wrote};
+ghost use Rattle.sense.specs.Refusal.{rowOf, refusedSense};
+ghost use Rattle.inquiry.specs.Inquiry.{Servable, request, outcome, inquiry as Inquiry·inquiry, page as Inquiry·page, part as Inquiry·part};
+
+// What comes back: the refusal's number or 0, the status, which slice is shown (0 the drive's reply, 1 the room), and how many
+// of its bytes.
+#[repr(C)]
+pub struct Answer {
+    pub number: u8,
+    pub status: u8,
+    pub shown: u8,
+    pub count: usize,
+}
+
+// Writes the page that is asked for, as much of it as fits.
+fn put_page(
+    room: &mut [u8],
+    command: &[u8],
+    block: &[u8],
+    signature: &[u8],
+    texts: &[u8],
+    reply: &[u8],
+)
+    requires { ⌜ Servable (request (now command) (now block) (now signature) (now texts) (now reply)) ⌝ }
+    ensures { λ _. ⌜ Wrote (now (room .entry)) 0 (Inquiry·page (request (now (command .entry)) (now (block .entry)) (now (signature .entry)) (now (texts .entry)) (now (reply .entry)))) (now (room .exit)) ⌝ }
+{
+    let packet = packet::packet_drive(signature);
+    if checks::standard_asked(packet, command) {
+        pages::put_standard(room, block);
+        return;
+    }
+    if command[2] == 0x00 {
+        if packet {
+            packet::put(room, reply);
+            return;
+        }
+        pages::put_supported(room);
+        return;
+    }
+    if command[2] == 0x80 {
+        pages::put_serial(room, block);
+        return;
+    }
+    if command[2] == 0x83 {
+        page83::put(room, block);
+        return;
+    }
+    pages::put_information(room, packet, texts, signature, block);
+}
+
+// A refusal: an empty part of the room, and the sense bytes of its row.
+fn refuse(sense: &mut [u8], number: u8) -> Answer
+    ensures answer { λ r. ⌜ r ≡ record { number = number; status = rowOf number .status; shown = 1; count = 0 } ⌝ }
+    ensures sense { λ _. ⌜ now (sense .exit) ≡ refusedSense number (now (sense .entry)) ⌝ }
+{
+    let status = sense::refuse(sense, number);
+    Answer {
+        number,
+        status,
+        shown: 1,
+        count: 0,
+    }
+}
+
+// Answers an INQUIRY command.
+pub fn inquiry(
+    command: &[u8],
+    block: &[u8],
+    signature: &[u8],
+    texts: &[u8],
+    reply: &[u8],
+    room: &mut [u8],
+    sense: &mut [u8],
+) -> Answer
+    ensures { λ r. ⌜ outcome r (now (room .exit)) (now (sense .exit)) ≡ Inquiry·inquiry (request (now (command .entry)) (now (block .entry)) (now (signature .entry)) (now (texts .entry)) (now (reply .entry))) (now (room .entry)) (now (sense .entry)) ⌝ }
+{
+    let number = checks::fault(
+        command,
+        block,
+        signature,
+        texts,
+        reply,
+        room.len(),
+        sense.len(),
+    );
+    if number != 0 {
+        return refuse(sense, number);
+    }
+    let packet = packet::packet_drive(signature);
+    let allocation = checks::allocation(command);
+    if checks::passes_through(packet, command) {
+        return Answer {
+            number: 0,
+            status: sense::GOOD,
+            shown: 0,
+            count: rules::lesser(reply.len(), allocation),
+        };
+    }
+    let n = rules::lesser(checks::size(packet, command, block, reply), allocation);
+    put_page(&mut room[..n], command, block, signature, texts, reply);
+    Answer {
+        number: 0,
+        status: sense::GOOD,
+        shown: 1,
+        count: n,
+    }
+}
+
+// The part that an answer shows, of the drive's reply or of the room: which one is the number decided before.
+pub fn served<'a>(reply: &'a [u8], room: &'a [u8], shown: u8, count: usize) -> &'a [u8]
+    ensures { λ r. ⌜ now r ≡ Inquiry·part (now (reply .entry)) (now (room .entry)) shown count ⌝ }
+{
+    if shown == 0 {
+        return rules::part(reply, 0, count);
+    }
+    rules::part(room, 0, count)
+}

@@ -1,0 +1,65 @@
+-- `put`: the four first bytes, and the list with 89h beside them.
+use mathlib.Core.Path.{refl}
+use native.Mathlib.Omega.{arith}
+use Rattle.room.proofs.Laws.{beside}
+use Rattle.packet.specs.Packet.{page00}
+use Rattle.packet.proofs.Laws.{length-fits}
+use borrow.Author.Needs.{needs}
+use Rattle.packet.proofs.put.Statement.{statement}
+use Rattle.packet.proofs.put.Tie as tie
+
+listed-requires : tie.Need-listed-requires
+listed-requires c κs = search needs
+
+count-requires : tie.Need-count-requires
+count-requires c κs = search needs
+
+byte-requires : tie.Need-byte-requires
+byte-requires c κs = search needs
+
+byte-requires-2 : tie.Need-byte-requires-2
+byte-requires-2 c κs = search needs
+
+cast-t8 : tie.Need-cast-t8
+cast-t8 c =
+    let n = c .before .before in
+    let l = n .before .before in
+    let a = l .before .before in
+    let byte = l .shared-slice-known .given 3 .fits in
+    omega (arith, rw (n .before .listed .ensures) at (n .count .ensures .0), length-fits (a .args .reply .now) byte (a .pre))
+
+slice-aggregate-put : tie.Need-slice-aggregate-put
+slice-aggregate-put c = search needs
+
+put-requires : tie.Need-put-requires
+put-requires c κs = search needs
+
+put-codes-requires : tie.Need-put-codes-requires
+put-codes-requires c κs = search needs
+
+same-length : tie.Need-same-length
+same-length c = search needs
+
+returns : tie.Need-returns
+unfolding page00
+returns c =
+    let p = c .before .before .before .before .before .before in
+    let b = p .before .before .before in
+    let n = b .before .before in
+    rw (← n .before .listed .ensures, ← n .count .ensures .0, ← b .before .byte .ensures, ← b .byte2 .ensures)
+    (beside (p .put .ensures) (c .before .before .put-codes .ensures) refl)
+
+pub put-spec : {M : Type 1} → statement M
+put-spec =
+    tie.close
+    (tie.spec
+    listed-requires
+    count-requires
+    byte-requires
+    byte-requires-2
+    cast-t8
+    slice-aggregate-put
+    put-requires
+    put-codes-requires
+    same-length
+    returns)

@@ -1,0 +1,82 @@
+-- `put_codes`: the codes before the place, and beside them 89h with the codes behind it.
+use mathlib.Core.Path.{sym}
+use Prim.Native.Nat.{_-_}
+use native.Mathlib.Omega.{arith}
+use lib.ListN.{length, drop, length-drop}
+use lib.Seq.{length-take-le, take-all}
+use Rattle.room.proofs.Laws.{beside}
+use borrow.Author.Needs.{needs}
+use Rattle.packet.proofs.put_codes.Statement.{statement}
+use Rattle.packet.proofs.put_codes.Tie as tie
+
+place-requires : tie.Need-place-requires
+place-requires c κs = search needs
+
+behind-requires : tie.Need-behind-requires
+behind-requires c κs = search needs
+
+slice-aggregate-put : tie.Need-slice-aggregate-put
+slice-aggregate-put c = sym (length-take-le _ _ (c .before .before .before .place .ensures .1))
+
+put-requires : tie.Need-put-requires
+put-requires c κs = search needs
+
+add-put : tie.Need-add-put
+add-put c = search needs
+
+slice-aggregate-put-2 : tie.Need-slice-aggregate-put-2
+slice-aggregate-put-2 c = search needs
+
+put-requires-2 : tie.Need-put-requires-2
+put-requires-2 c κs = search needs
+
+add-put-2 : tie.Need-add-put-2
+add-put-2 c = search needs
+
+sub-put : tie.Need-sub-put
+sub-put c = search needs
+
+part-put-start : tie.Need-part-put-start
+part-put-start c = search needs
+
+part-put-end : tie.Need-part-put-end
+part-put-end c = search needs
+
+put-requires-3 : tie.Need-put-requires-3
+put-requires-3 c κs = search needs
+
+same-length : tie.Need-same-length
+same-length c = search needs
+
+returns : tie.Need-returns
+returns c =
+    let t = c .before .before in
+    let h = t .before .before .before .before .before in
+    let p = h .before .before .before .before .before in
+    let b = p .before .before .before in
+    let at = b .before .place in
+    let s = b .before .before .before .before .args .codes .now in
+    let l = length-take-le (at .result) s (at .ensures .1) in
+    let m = length-drop (b .behind .result) s in
+    let rest = rw (take-all (length s - b .behind .result) (drop (b .behind .result) s) (omega arith)) at (t .put3 .ensures) in
+    rw (b .behind .ensures .0, ← at .ensures .0)
+    (beside (p .put .ensures) (beside (h .put2 .ensures) rest (omega arith)) (omega arith))
+
+pub put-codes-spec : {M : Type 1} → statement M
+put-codes-spec =
+    tie.close
+    (tie.spec
+    place-requires
+    behind-requires
+    slice-aggregate-put
+    put-requires
+    add-put
+    slice-aggregate-put-2
+    put-requires-2
+    add-put-2
+    sub-put
+    part-put-start
+    part-put-end
+    put-requires-3
+    same-length
+    returns)

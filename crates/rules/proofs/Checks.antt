@@ -1,0 +1,35 @@
+-- Laws of tests, and of checks in order.
+use mathlib.Core.Path.{_≡_, refl, sym, _∙_}
+use mathlib.Core.Bool.{Bool, true, false, cond, _&&_, _||_, not, and-eq-true-iff, true≢false}
+use mathlib.Core.List.{List, [], _∷_}
+use Prim.Native.Nat.{ℕ}
+use lib.Dec.{eqb}
+use borrow.Author.Tests.{eq-eqb}
+use Rattle.rules.specs.Checks.{Check, first}
+
+-- No check of a list applies.
+abbrev pub Silent : List Check → Type 0
+Silent [] = Unit {0}
+Silent (check ∷ checks) = (check .applies ≡ false) × Silent checks
+
+-- Every check of a list has a number other than 0.
+abbrev pub numbered : List Check → Bool
+numbered [] = true
+numbered (check ∷ checks) = not (eqb (check .number) 0) && numbered checks
+
+-- So where the first that applies gives none, none applies.
+pub silent : (checks : List Check) → numbered checks ≡ true → first checks ≡ 0 → Silent checks
+silent [] n e = tt
+silent (check ∷ checks) n e =
+    let both = and-eq-true-iff (not (eqb (check .number) 0)) (numbered checks) .0 n in
+    let parts = step (check .applies) (check .number) (first checks) (both .0) e in
+    (parts .0, silent checks (both .1) (parts .1))
+  where
+    step : (b : Bool) (k rest : ℕ) → not (eqb k 0) ≡ true → cond b k rest ≡ 0 → (b ≡ false) × (rest ≡ 0)
+    step true k rest n e = absurd (true≢false (sym n ∙ rw (eq-eqb k 0 e)))
+    step false k rest n e = (refl, e)
+
+-- Neither of two tests applies.
+pub neither : (a b : Bool) → (a || b) ≡ false → (a ≡ false) × (b ≡ false)
+neither true b e = absurd (true≢false e)
+neither false b e = (refl, e)

@@ -1,0 +1,12 @@
+-- Bits of a byte or a word, numbered as SCSI and ATA number them: bit 0 is the lowest.
+use mathlib.Core.Bool.{Bool}
+use Prim.Native.Nat.{ℕ, _+_, _-_, _/_, _%_, _^_}
+use lib.Dec.{eqb}
+
+-- Bit k is one.
+abbrev pub bit : ℕ → ℕ → Bool
+bit k n = eqb (n / 2 ^ k % 2) 1
+
+-- Bits high:low, as a number.
+abbrev pub bits : ℕ → ℕ → ℕ → ℕ
+bits high low n = n / 2 ^ low % 2 ^ (high + 1 - low)
