@@ -1,2 +1,3 @@
 -- Page 83h, the identification page, as document 01 writes it.
 pub mod Page83
+pub mod Reader

@@ -1,4 +1,8 @@
-// Page 83h: the page that names a drive, for whoever has a block and room. The rule stands in specs/Page83.
+// Page 83h: the page that names a drive: its writer, for whoever has a block and room, and its reader. The rules stand in
+// specs/: Page83 and Reader.
+mod reader;
+
+pub use reader::read;
 ghost use mathlib.Core.Path.{_≡_};
 ghost use mathlib.Core.List.{List, _++_};
 ghost use Prim.Native.Nat.{_≤_};
@@ -13,6 +17,14 @@ ghost use Rattle.page83.specs.Page83.{page83, namePage, textPage, outcom
 pub struct Written {
     pub number: u8,
     pub count: usize,
+}
+
+// What the reader gives: 0 or 16, the form (1 the world wide name, 2 model and serial number, 0 refused), and the name's bytes.
+#[repr(C)]
+pub struct Name {
+    pub number: u8,
+    pub form: u8,
+    pub name: [u8; 60],
 }
 
 // The page of a drive that carries a name.

@@ -1,0 +1,2 @@
+-- The laws of the roll, and what they say of demand 3.
+pub mod Laws

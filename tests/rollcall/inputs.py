@@ -1,0 +1,125 @@
+#!/usr/bin/env python3
+"""inputs.py DIR: writes the inputs of the suite into DIR, one file NAME.in each, from the words of document 01: a block is
+512 bytes, word w is its bytes 2w (bits 7:0) and 2w+1 (bits 15:8), a text has two letters a word, the first in bits 15:8;
+serial words 10-19, model words 27-46, name words 108-111. Nothing of the board is used."""
+import glob
+import os
+import sys
+
+BLOCK = 512
+
+
+def put_text(block, first, size, text, fill):
+    """A text of so many bytes from a word on, filled up with spaces or with zero bytes."""
+    whole = text.encode().ljust(size, fill)
+    for i in range(0, size, 2):
+        block[2 * first + i] = whole[i + 1]
+        block[2 * first + i + 1] = whole[i]
+
+
+def put_name(block, name):
+    """The name's four words, the highest first."""
+    for i in range(4):
+        word = name >> (16 * (3 - i)) & 0xFFFF
+        block[2 * (108 + i)] = word & 0xFF
+        block[2 * (108 + i) + 1] = word >> 8
+
+
+def drive(model, serial, name=0, fill=b" ", firmware="1.0"):
+    block = bytearray(BLOCK)
+    put_text(block, 10, 20, serial, fill)
+    put_text(block, 23, 8, firmware, b" ")
+    put_text(block, 27, 40, model, fill)
+    put_name(block, name)
+    return bytes(block)
+
+
+def sample():
+    """The three blocks of document 01."""
+    blocks = [bytearray(BLOCK) for _ in range(3)]
+    for block in blocks[:2]:
+        block[216:224] = bytes.fromhex("005000C534127856")
+    blocks[1][20] = 0x41
+    return [bytes(block) for block in blocks]
+
+
+def many(count):
+    """So many different drives; those at odd places carry a name."""
+    return [drive("PIONG DISK", "N%d" % i, 0x5000C50000000000 + i if i % 2 else 0) for i in range(count)]
+
+
+def real():
+    """The blocks under data/identify, in the order of their names."""
+    here = os.path.join(os.path.dirname(os.path.abspath(__file__)), "..", "..", "data", "identify")
+    return [open(path, "rb").read() for path in sorted(glob.glob(os.path.join(here, "*.bin")), key=os.fsencode)]
+
+
+def names():
+    """Names that differ in one bit each, a zero name byte beside one of 20h, and last the first name again."""
+    base = 0x5000C50012345678
+    return [drive("A", "1", name) for name in (base, base ^ 1, base ^ 1 << 63, base | 0x2000000000, 0, 1, 1 << 48, base)]
+
+
+def mixed():
+    """64 blocks drawn from few drives, in many spellings of each; always the same ones, by a counter that jumps about."""
+    state = 1
+
+    def draw(choices):
+        nonlocal state
+        state = (state * 1103515245 + 12345) % 2**31
+        return choices[(state >> 16) % len(choices)]
+
+    return [
+        drive(
+            draw(("PIONG DISK", "PIONG DISK 2", "")),
+            draw(("N1", "N2", "N10")),
+            draw((0, 0, 0, 0x5000C50000000001, 0x5000C50000000002)),
+            draw((b" ", b"\0")),
+            draw(("1.0", "2.0")),
+        )
+        for _ in range(64)
+    ]
+
+
+LONG = "PIONG DISK SEVEN"  # sixteen letters
+
+INPUTS = {
+    "sample": sample(),
+    # Sizes.
+    "blocks_0": [],
+    "blocks_1": [drive("PIONG DISK", "N1")],
+    "blocks_64": many(64),
+    "blocks_65": many(65),
+    "blocks_80": many(80),
+    "bytes_1": [b"\0"],
+    "bytes_511": [bytes(511)],
+    "bytes_513": [bytes(513)],
+    "bytes_32767": [b"".join(many(64))[:-1]],
+    "bytes_32769": many(64) + [b"\0"],
+    "real": real(),
+    # Version one's fault: eight bays of one make and model, then two models that part after sixteen letters.
+    "eight_bays": [drive(LONG, "SN%04d" % bay) for bay in range(8)],
+    "sixteen_letters": [drive(LONG + " A", "N1"), drive(LONG + " B", "N1"), drive(LONG + " A", "N1")],
+    # Version two's fault: one drive, its texts filled up with zero bytes, then with spaces; texts of odd length.
+    "zeros_and_spaces": [drive("PIONG DISK1", "N10", fill=b"\0"), drive("PIONG DISK1", "N10", fill=b" ")],
+    "no_texts": [drive("", "", fill=b"\0"), drive("", "", fill=b" "), drive("", "N1")],
+    # What a name decides, and what it leaves.
+    "name_decides": [drive("PIONG DISK", "N1", 0x5000C50012345678), drive("OTHER", "N2", 0x5000C50012345678)],
+    "name_or_none": [drive("PIONG DISK", "N1", 0x5000C50012345678), drive("PIONG DISK", "N1"), drive("PIONG DISK", "N1", 1)],
+    "names": names(),
+    "firmware": [drive("PIONG DISK", "N1", firmware="1.0"), drive("PIONG DISK", "N1", firmware="2.0")],
+    "model_or_serial": [drive("A", "B"), drive("B", "A"), drive("AB", ""), drive("A", "B")],
+    "letter_case": [drive("Piong", "n1"), drive("PIONG", "N1"), drive("PIONG", " N1")],
+    # Rows by first appearance: a b a c b c d a.
+    "first_appearance": [drive("PIONG DISK", serial) for serial in "abacbcda"],
+    "mixed": mixed(),
+}
+
+
+def main():
+    for name, pieces in INPUTS.items():
+        with open(os.path.join(sys.argv[1], name + ".in"), "wb") as file:
+            file.write(b"".join(pieces))
+
+
+main()
