@@ -1,0 +1,2 @@
+-- The soundings, proved of the rules.
+pub mod Soundings

@@ -1,0 +1,2 @@
+-- Soundings: worked cases of document 01, and what it says of each.
+pub mod Soundings

@@ -1,0 +1,116 @@
+-- Soundings C1 to C13 of document 01: each row an input and everything that 01 says of its outcome, asked of the rules themselves.
+use mathlib.Core.Bool.{Bool, true, _&&_}
+use mathlib.Core.List.{List, [], _∷_, _++_}
+use Prim.Native.Nat.{ℕ}
+use lib.Dec.{eqb}
+use lib.ListN.{length, drop, replicate}
+use Rattle.identify.specs.Drive.{equal}
+use Rattle.sense.specs.Refusal.{rowOf, refusedSense, good, checkCondition, none}
+use Rattle.inquiry.specs.Inquiry.{request, inquiry, Outcome}
+use Rattle.order.specs.Order.{empty}
+use Rattle.order.specs.Submit.{submit, Outcome as Submission}
+use Rattle.order.specs.Complete.{complete, Outcome as Completion}
+
+-- "block 0 above, signature all zero": zero but for bytes 216-223, `00 50 00 C5 34 12 78 56`
+abbrev pub block0 : List ℕ
+block0 = replicate 216 0x00 ++ (0x00 ∷ 0x50 ∷ 0x00 ∷ 0xC5 ∷ 0x34 ∷ 0x12 ∷ 0x78 ∷ 0x56 ∷ []) ++ replicate 288 0x00
+
+-- Room and sense room are lent with a byte that no reply has at their ends.
+abbrev pub room : List ℕ
+room = replicate 600 0xEE
+
+abbrev pub senseRoom : List ℕ
+senseRoom = replicate 24 0xEE
+
+-- What an INQUIRY shows: its number, status and bytes; room past them untouched, and no sense byte but a refusal's.
+abbrev pub shows : ℕ → ℕ → List ℕ → Outcome → Bool
+shows number status bytes o =
+    eqb (o .answer .number) number
+    && eqb (o .answer .status) status
+    && eqb (o .answer .count) (length bytes)
+    && equal (o .room) (bytes ++ drop (length bytes) room)
+    && equal (o .sense) (refusedSense number senseRoom)
+
+abbrev pub ask : List ℕ → Outcome
+ask command = inquiry (request command block0 (replicate 20 0x00) (replicate 28 0x00) []) room senseRoom
+
+-- "Nothing pending in C6 to C12 at first."
+abbrev pub registers : List ℕ
+registers = 0x00 ∷ 0x00 ∷ 0xFF ∷ 0x00 ∷ 0x00 ∷ 0x00 ∷ 0x00 ∷ 0x00 ∷ 0x00 ∷ 0x00 ∷ 0x50 ∷ []
+
+abbrev pub send : List ℕ → ℕ → Submission
+send command declared = submit empty command registers declared senseRoom
+
+-- An order taken: direction and length, no status yet, the record filled with it, no sense byte.
+abbrev pub takes : ℕ → ℕ → Submission → Bool
+takes direction bytes o =
+    eqb (o .submitted .taken .number) 0
+    && eqb (o .submitted .taken .status) none
+    && eqb (o .submitted .taken .order .direction) direction
+    && eqb (o .submitted .taken .order .length) bytes
+    && eqb (o .submitted .next .state) 1
+    && eqb (o .submitted .next .order .direction) direction
+    && eqb (o .submitted .next .order .length) bytes
+    && equal (o .sense) senseRoom
+
+-- A command refused: its number and status, a zero order, the record as it was, the refusal's sense bytes.
+abbrev pub refuses : ℕ → Submission → Bool
+refuses number o =
+    eqb (o .submitted .taken .number) number
+    && eqb (o .submitted .taken .status) (rowOf number .status)
+    && eqb (o .submitted .taken .order .length) 0
+    && eqb (o .submitted .next .state) 0
+    && equal (o .sense) (refusedSense number senseRoom)
+
+-- An order ended: its status and sense bytes, and the record empty.
+abbrev pub ends : ℕ → List ℕ → Completion → Bool
+ends status bytes o =
+    eqb (o .completed .ended .number) 0
+    && eqb (o .completed .ended .status) status
+    && eqb (o .completed .next .state) 0
+    && equal (o .sense) (bytes ++ drop (length bytes) senseRoom)
+
+-- C6's command with other bytes 1, 2 and 4.
+abbrev pub identify : ℕ → ℕ → ℕ → List ℕ
+identify b1 b2 count = 0xA1 ∷ b1 ∷ b2 ∷ 0x00 ∷ count ∷ 0x00 ∷ 0x00 ∷ 0x00 ∷ 0x00 ∷ 0xEC ∷ 0x00 ∷ 0x00 ∷ []
+
+-- "C12 `85 06 20`, eleven zero bytes, `E5 00`"
+abbrev pub checkPower : List ℕ
+checkPower = 0x85 ∷ 0x06 ∷ 0x20 ∷ replicate 11 0x00 ++ (0xE5 ∷ 0x00 ∷ [])
+
+abbrev pub soundings : List Bool
+soundings =
+    -- C1 `12 01 83 00 FF 00`
+    shows 0 good (0x00 ∷ 0x83 ∷ 0x00 ∷ 0x0C ∷ 0x01 ∷ 0x03 ∷ 0x00 ∷ 0x08 ∷ 0x50 ∷ 0x00 ∷ 0xC5 ∷ 0x00 ∷ 0x12 ∷ 0x34 ∷ 0x56 ∷ 0x78 ∷ []) (ask (0x12 ∷ 0x01 ∷ 0x83 ∷ 0x00 ∷ 0xFF ∷ 0x00 ∷ []))
+    -- C2 allocation 5
+    ∷ shows 0 good (0x00 ∷ 0x83 ∷ 0x00 ∷ 0x0C ∷ 0x01 ∷ []) (ask (0x12 ∷ 0x01 ∷ 0x83 ∷ 0x00 ∷ 0x05 ∷ 0x00 ∷ []))
+    -- C3 allocation 0
+    ∷ shows 0 good [] (ask (0x12 ∷ 0x01 ∷ 0x83 ∷ 0x00 ∷ 0x00 ∷ 0x00 ∷ []))
+    -- C4 `12 00 80 00 FF 00`
+    ∷ shows 4 checkCondition [] (ask (0x12 ∷ 0x00 ∷ 0x80 ∷ 0x00 ∷ 0xFF ∷ 0x00 ∷ []))
+    -- C5 `12 01 B0 00 FF 00`
+    ∷ shows 5 checkCondition [] (ask (0x12 ∷ 0x01 ∷ 0xB0 ∷ 0x00 ∷ 0xFF ∷ 0x00 ∷ []))
+    -- C6 `A1 08 0E 00 01 00 00 00 00 EC 00 00`, declared 512: from drive, 512 bytes
+    ∷ takes 1 512 (send (identify 0x08 0x0E 0x01) 512)
+    -- C7 declared 511
+    ∷ refuses 14 (send (identify 0x08 0x0E 0x01) 511)
+    -- C8 byte 2 as 06
+    ∷ refuses 12 (send (identify 0x08 0x06 0x01) 512)
+    -- C9 as 0C
+    ∷ refuses 11 (send (identify 0x08 0x0C 0x01) 512)
+    -- C10 count 00
+    ∷ refuses 13 (send (identify 0x08 0x0E 0x00) 512)
+    -- C11 byte 1 as 04
+    ∷ refuses 9 (send (identify 0x04 0x0E 0x01) 512)
+    -- C12 accepted; and its registers complete as written
+    ∷ takes 0 0 (send checkPower 0)
+    ∷ ends checkCondition (0x72 ∷ 0x01 ∷ 0x00 ∷ 0x1D ∷ 0x00 ∷ 0x00 ∷ 0x00 ∷ 0x0E ∷ 0x09 ∷ 0x0C ∷ 0x00 ∷ 0x00 ∷ 0x00 ∷ 0xFF ∷ 0x00 ∷ 0x00 ∷ 0x00 ∷ 0x00 ∷ 0x00 ∷ 0x00 ∷ 0x00 ∷ 0x50 ∷ [])
+    (complete (send checkPower 0 .submitted .next) registers senseRoom)
+    -- C13 no command bytes, of either entry
+    ∷ shows 2 checkCondition [] (ask [])
+    ∷ refuses 2 (send [] 0)
+    ∷ []
+
+abbrev pub all : List Bool → Bool
+all [] = true
+all (b ∷ bs) = b && all bs

@@ -1,0 +1,98 @@
+// Piongseut: the board as a C library. Every entry is a thin function over the one that is proved below it, and promises the same
+// in the same words; include/piongseut.h says it to C. Only what stands here is visible in the archive.
+use inquiry::Answer;
+use order::Ended;
+use order::Pending;
+use order::Taken;
+use page83::Name;
+use page83::Written;
+use roll::Counted;
+ghost use mathlib.Core.Path.{_≡_};
+ghost use mathlib.Core.List.{List};
+ghost use Rattle.inquiry.specs.Inquiry.{request, outcome as inquiryOutcome, inquiry as inquiryRule};
+ghost use Rattle.order.specs.Order.{empty};
+ghost use Rattle.order.specs.Submit.{outcome as submitOutcome, submit as submitRule};
+ghost use Rattle.order.specs.Complete.{outcome as completeOutcome, complete as completeRule};
+ghost use Rattle.page83.specs.Page83.{outcome as writtenOutcome, write as writeRule};
+ghost use Rattle.page83.specs.Reader.{read as readRule};
+ghost use Rattle.roll.specs.Roll.{outcome as rollOutcome, roll as rollRule};
+
+// Answers an INQUIRY command.
+#[no_mangle]
+pub extern "C" fn piongseut_inquiry(
+    command: &[u8],
+    block: &[u8],
+    signature: &[u8],
+    texts: &[u8],
+    reply: &[u8],
+    room: &mut [u8],
+    sense: &mut [u8],
+) -> Answer
+    ensures { λ r. ⌜ inquiryOutcome r (now (room .exit)) (now (sense .exit)) ≡ inquiryRule (request (now (command .entry)) (now (block .entry)) (now (signature .entry)) (now (texts .entry)) (now (reply .entry))) (now (room .entry)) (now (sense .entry)) ⌝ }
+{
+    inquiry::inquiry(command, block, signature, texts, reply, room, sense)
+}
+
+// A record that holds nothing.
+#[no_mangle]
+pub extern "C" fn piongseut_empty() -> Pending
+    ensures { λ r. ⌜ r ≡ empty ⌝ }
+{
+    Pending::empty()
+}
+
+// Submits a pass-through command, and updates the record that is lent.
+#[no_mangle]
+pub extern "C" fn piongseut_submit(
+    state: &mut Pending,
+    command: &[u8],
+    registers: &[u8],
+    declared: u32,
+    sense: &mut [u8],
+) -> Taken
+    ensures { λ r. ⌜ submitOutcome (record { next = now (state .exit); taken = r }) (now (sense .exit)) ≡ submitRule (now (state .entry)) (now (command .entry)) (now (registers .entry)) declared (now (sense .entry)) ⌝ }
+{
+    let p = *state;
+    let a = p.submit(command, registers, declared, sense);
+    *state = a.next;
+    a.taken
+}
+
+// Ends the order that the record holds, and updates the record that is lent.
+#[no_mangle]
+pub extern "C" fn piongseut_complete(
+    state: &mut Pending,
+    registers: &[u8],
+    sense: &mut [u8],
+) -> Ended
+    ensures { λ r. ⌜ completeOutcome (record { next = now (state .exit); ended = r }) (now (sense .exit)) ≡ completeRule (now (state .entry)) (now (registers .entry)) (now (sense .entry)) ⌝ }
+{
+    let p = *state;
+    let a = p.complete(registers, sense);
+    *state = a.next;
+    a.ended
+}
+
+// Writes the page 83h of a block.
+#[no_mangle]
+pub extern "C" fn piongseut_write_page83(block: &[u8], room: &mut [u8]) -> Written
+    ensures { λ r. ⌜ writtenOutcome r (now (room .exit)) ≡ writeRule (now (block .entry)) (now (room .entry)) ⌝ }
+{
+    page83::write(block, room)
+}
+
+// Reads a page 83h.
+#[no_mangle]
+pub extern "C" fn piongseut_read_page83(page: &[u8]) -> Name
+    ensures { λ r. ⌜ r ≡ readRule (now (page .entry)) ⌝ }
+{
+    page83::read(page)
+}
+
+// The roll of a run of blocks.
+#[no_mangle]
+pub extern "C" fn piongseut_roll(blocks: &[u8], rows: &mut [u16]) -> Counted
+    ensures { λ r. ⌜ rollOutcome r (now (rows .exit)) ≡ rollRule (now (blocks .entry)) (now (rows .entry)) ⌝ }
+{
+    roll::roll(blocks, rows)
+}
