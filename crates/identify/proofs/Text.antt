@@ -99,5 +99,17 @@ module _ (f : ℕ → ℕ) (s : List ℕ) (i : ℕ) (h : i < length s) where
   pub turned-last : length s ≤ partner i → getD (map f (turned s)) i 0 ≡ f (getD s i 0)
   turned-last k = getD-map f (turned s) i (omega (arith, length-turned s)) ∙ ap f (getD-last s i h k)
 
+-- The two bytes of a word of a turned text, the word starting at an even place.
+module _ (f : ℕ → ℕ) (s : List ℕ) (i : ℕ) (even : i % 2 ≡ 0) (h : i + 1 < length s) where
+  pub word-first : getD (map f (turned s)) i 0 ≡ f (getD s (i + 1) 0)
+  word-first =
+      let p : partner i ≡ i + 1 = omega arith in
+      rw p at (turned-pair f s i (omega arith) (omega arith))
+
+  pub word-second : getD (map f (turned s)) (i + 1) 0 ≡ f (getD s i 0)
+  word-second =
+      let p : partner (i + 1) ≡ i = omega arith in
+      rw p at (turned-pair f s (i + 1) h (omega arith))
+
 pub length-text : (f : ℕ → ℕ) (s : List ℕ) → length (map f (turned s)) ≡ length s
 length-text f s = length-map (turned s) f ∙ length-turned s

@@ -69,14 +69,19 @@ fn turned_at(text: &[u8], i: usize, spaced: bool) -> u8
     shown(spaced, text[i])
 }
 
+// Writes a text turned, word by word; the last byte that fits alone stands for itself.
 fn put_text(room: &mut [u8], at: usize, text: &[u8], spaced: bool)
     ensures { λ _. ⌜ Wrote (now (room .entry)) at (map (Text·shown spaced) (turned (now (text .entry)))) (now (room .exit)) ⌝ }
 {
     let n = room::fit(room.len(), at, text.len());
     let mut i = 0;
-    while i < n {
+    while i + 1 < n {
+        room[at + i] = shown(spaced, text[i + 1]);
+        room[at + i + 1] = shown(spaced, text[i]);
+        i += 2;
+    }
+    if i < n {
         room[at + i] = turned_at(text, i, spaced);
-        i += 1;
     }
 }
 

@@ -4,14 +4,14 @@ use mathlib.Core.Bool.{Bool, true, false, cond, _&&_, _||_, not}
 use mathlib.Core.List.{List}
 use Prim.Native.Nat.{ℕ, _≤_}
 use lib.Dec.{eqb, ltb}
-use lib.ListN.{length}
-use borrow.Author.Tests.{eqb-true, ltb-false, not-false}
-use Rattle.rules.proofs.Checks.{silent, neither}
+use lib.ListN.{length, take, drop}
+use borrow.Author.Tests.{eq-eqb, ne-eqb, eqb-true, ltb-false, not-false}
+use Rattle.rules.proofs.Checks.{silent, neither, first-of-two}
 use Rattle.pages.specs.Page.{page00}
 use Rattle.pages.proofs.Laws.{length-page89}
 use Rattle.packet.specs.Packet.{unusable}
 use Rattle.inquiry.specs.Command.{pageCode}
-use Rattle.inquiry.specs.Inquiry.{Request, isPacket, passesThrough, wrongSize, page, sizeOf, toWrite, checks, refusalOf, Servable}
+use Rattle.inquiry.specs.Inquiry.{Request, isPacket, passesThrough, wrongSize, page, sizeOf, toWrite, checks, refusalOf, earlyRefusal, Servable}
 
 length-cond : (b : Bool) (x y : List ℕ) → length (cond b x y) ≡ cond b (length x) (length y)
 length-cond true x y = refl
@@ -41,16 +41,27 @@ pub length-page : (q : Request) → length (q .texts) ≡ 28 → length (q .sign
 unfolding page sizeOf page00
 length-page q ht hs = simp (length-cond, length-page89 (isPacket q) (q .texts) (q .signature) (q .block) ht hs)
 
--- What holds once no check has applied.
-pub record Granted (q : Request) (room sense : ℕ) : Type 0 where
+-- The refusal, by the checks that do not look at the room and the one that does.
+module _ (q : Request) (room sense : ℕ) where
+  two-runs : refusalOf q room sense ≡ cond (eqb (earlyRefusal q sense) 0) (cond (not (passesThrough (isPacket q) (q .command)) && ltb room (toWrite q)) 8 0) (earlyRefusal q sense)
+  unfolding refusalOf earlyRefusal
+  two-runs = first-of-two (take 8 (checks q room sense)) (drop 8 (checks q room sense)) refl
+
+  pub refused-early : (earlyRefusal q sense ≡ 0 → ⊥) → refusalOf q room sense ≡ earlyRefusal q sense
+  refused-early h = rw (two-runs, ne-eqb _ _ h)
+
+  pub refused-late : earlyRefusal q sense ≡ 0 → refusalOf q room sense ≡ cond (not (passesThrough (isPacket q) (q .command)) && ltb room (toWrite q)) 8 0
+  refused-late h = rw (two-runs, eq-eqb _ _ h)
+
+-- What holds once none of the early checks has applied.
+pub record Granted (q : Request) : Type 0 where
   pub servable : passesThrough (isPacket q) (q .command) ≡ false → Servable q
   pub whole : 6 ≤ length (q .command)
-  pub roomy : passesThrough (isPacket q) (q .command) ≡ false → toWrite q ≤ room
 
-pub granted : (q : Request) (room sense : ℕ) → refusalOf q room sense ≡ 0 → Granted q room sense
-unfolding refusalOf
-granted q room sense e =
-    let c = silent (checks q room sense) refl e in
+pub granted : (q : Request) (sense : ℕ) → earlyRefusal q sense ≡ 0 → Granted q
+unfolding earlyRefusal
+granted q sense e =
+    let c = silent (take 8 (checks q 0 sense)) refl e in
     let s = sized (q .block) (q .signature) (q .texts) sense (c .0) in
     let short = c .1 .1 .1 in
     let list = short .1 .1 .1 .1 in
@@ -63,9 +74,8 @@ granted q room sense e =
             reply = listed (isPacket q) (eqb (pageCode (q .command)) 0x00) (unusable (q .reply)) _ h (list .0);
           };
       whole = ltb-false _ _ (short .0);
-      roomy = λ h. ltb-false _ _ (rw h at (list .1 .0));
     }
-  where
+    where
     listed : (packet zero bad through : Bool) → through ≡ false → (packet && not through && zero && bad) ≡ false → (zero && packet && bad) ≡ false
     listed true true bad through h e = rw h at e
     listed true false bad through h e = refl

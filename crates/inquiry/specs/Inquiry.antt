@@ -104,6 +104,10 @@ checks q room sense =
 unfoldable pub refusalOf : Request → ℕ → ℕ → ℕ
 refusalOf q room sense = first (checks q room sense)
 
+-- All of them but the last, which alone looks at the room. For private functions; no rule names it.
+unfoldable pub earlyRefusal : Request → ℕ → ℕ
+earlyRefusal q sense = first (take 8 (checks q 0 sense))
+
 -- Everything that comes back, and every lent byte that can change.
 pub record Outcome : Type 0 where
   pub answer : Answer

@@ -2,11 +2,11 @@
 ghost use mathlib.Core.Path.{_≡_};
 ghost use mathlib.Core.Bool.{Bool, _&&_, _||_, not};
 ghost use mathlib.Core.List.{List};
-ghost use Prim.Native.Nat.{ℕ, _≤_, min};
-ghost use lib.Dec.{eqb, ltb};
+ghost use Prim.Native.Nat.{ℕ, _≤_};
+ghost use lib.Dec.{eqb};
 ghost use lib.ListN.{length};
 ghost use Rattle.inquiry.specs.Command.{evpd as Command·evpd, allocation as Command·allocation};
-ghost use Rattle.inquiry.specs.Inquiry.{request, wrongSize, wrongField, knownPage, wrongPage, noBlock, noList, passesThrough, sizeOf, refusalOf};
+ghost use Rattle.inquiry.specs.Inquiry.{request, wrongSize, wrongField, knownPage, wrongPage, noBlock, noList, passesThrough, sizeOf, earlyRefusal};
 
 // Neither 512 bytes nor none.
 fn wrong_block(block: usize) -> bool
@@ -189,28 +189,16 @@ pub fn size(packet: bool, command: &[u8], block: &[u8], reply: &[u8]) -> usize
     pages::information_size(block)
 }
 
-// 8: the output room is shorter than the bytes to write.
-fn no_room(packet: bool, command: &[u8], block: &[u8], reply: &[u8], room: usize) -> bool
-    requires { ⌜ 6 ≤ length (now command) ⌝ }
-    ensures { λ r. ⌜ r ≡ (not (passesThrough packet (now (command .entry))) && ltb room (min (sizeOf packet (now (command .entry)) (now (block .entry)) (now (reply .entry))) (Command·allocation (now (command .entry))))) ⌝ }
-{
-    if passes_through(packet, command) {
-        return false;
-    }
-    room < rules::lesser(size(packet, command, block, reply), allocation(command))
-}
-
-// The number of the first check that applies, and 0 where none does.
+// The number of the first check that applies, but for that of the room, and 0 where none does.
 pub fn fault(
     command: &[u8],
     block: &[u8],
     signature: &[u8],
     texts: &[u8],
     reply: &[u8],
-    room: usize,
     sense: usize,
 ) -> u8
-    ensures { λ r. ⌜ r ≡ refusalOf (request (now (command .entry)) (now (block .entry)) (now (signature .entry)) (now (texts .entry)) (now (reply .entry))) room sense ⌝ }
+    ensures { λ r. ⌜ r ≡ earlyRefusal (request (now (command .entry)) (now (block .entry)) (now (signature .entry)) (now (texts .entry)) (now (reply .entry))) sense ⌝ }
 {
     if wrong_size(block, signature, texts, sense) {
         return 1;
@@ -236,9 +224,6 @@ pub fn fault(
     }
     if no_list(packet, command, reply) {
         return 7;
-    }
-    if no_room(packet, command, block, reply, room) {
-        return 8;
     }
     0
 }

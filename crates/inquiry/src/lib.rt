@@ -80,15 +80,7 @@ pub fn inquiry(
 ) -> Answer
     ensures { λ r. ⌜ outcome r (now (room .exit)) (now (sense .exit)) ≡ Inquiry·inquiry (request (now (command .entry)) (now (block .entry)) (now (signature .entry)) (now (texts .entry)) (now (reply .entry))) (now (room .entry)) (now (sense .entry)) ⌝ }
 {
-    let number = checks::fault(
-        command,
-        block,
-        signature,
-        texts,
-        reply,
-        room.len(),
-        sense.len(),
-    );
+    let number = checks::fault(command, block, signature, texts, reply, sense.len());
     if number != 0 {
         return refuse(sense, number);
     }
@@ -103,6 +95,9 @@ pub fn inquiry(
         };
     }
     let n = rules::lesser(checks::size(packet, command, block, reply), allocation);
+    if room.len() < n {
+        return refuse(sense, 8);
+    }
     put_page(&mut room[..n], command, block, signature, texts, reply);
     Answer {
         number: 0,

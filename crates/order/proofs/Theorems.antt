@@ -22,6 +22,7 @@ use Rattle.order.specs.Complete as Complete
 use Rattle.order.specs.Complete.{complete, endStatus, endSense, isSet}
 use Rattle.order.proofs.Laws.{either}
 
+-- What decides the direction: a reset has none.
 direction-is : (c : List ℕ) (declared : ℕ) → orderOf c declared .direction ≡ cond (reset (protocol c)) 0 (directionOf (protocol c) (tDir c))
 unfolding orderOf
 direction-is c declared = sym (either (λ (o : Order). o .direction) (reset (protocol c)) _ _)
@@ -54,6 +55,7 @@ withCommand v o =
       direction = o .direction;
     }
 
+-- A byte elsewhere is kept.
 kept : (c : List ℕ) (i j v : ℕ) → eqb j i ≡ false → getD (set c i v) j 0 ≡ getD c j 0
 kept c i j v h = getD-set-other c i j v 0 (eqb-false _ _ h)
 
@@ -72,16 +74,18 @@ module _ (c : List ℕ) (declared v : ℕ) (w : Whole c) where
   pub only-the-command-differs : orderOf (set c (ataCommandAt c) v) declared ≡ cond (reset (protocol c)) (orderOf c declared) (withCommand v (orderOf c declared))
   only-the-command-differs = in-form (long c) (reset (protocol c)) refl refl
 
+-- A flag that was put into an order comes out of it.
 flag-is-set : (b : Bool) → isSet (flag b) ≡ b
 flag-is-set true = refl
 flag-is-set false = refl
 
--- CK_COND and EXTEND of an order are the command's own.
+-- CK_COND and EXTEND of an order are the command's own, unless it is a reset.
 pub own-flags : (c : List ℕ) (declared : ℕ) → reset (protocol c) ≡ false → (isSet (orderOf c declared .«ck_cond») ≡ ckCond c) × (isSet (orderOf c declared .extend) ≡ extend c)
 unfolding orderOf
 own-flags c declared r = rw r (flag-is-set (ckCond c), flag-is-set (extend c))
 
--- EXTEND, count FFFFh, blocks: the longest length that a field can ask for.
+-- EXTEND, count FFFFh, blocks: the longest length that a field can ask for. That no such product is too long for 32 bits is
+-- the law `product`.
 pub longest : (c : List ℕ) (declared : ℕ) → tLength c ≡ 2 → byteBlock c ≡ true → count c ≡ 0xFFFF → lengthOf c declared ≡ 33553920
 unfolding lengthOf
 longest c declared t b n = rw (t, b, n)
@@ -110,15 +114,17 @@ EndsBy left room o =
     complete (o .submitted .next) left room
     ≡ Complete.outcome (Complete.answer empty 0 (endStatus (o .submitted .taken .order) left)) (endSense (o .submitted .taken .order) left room)
 
+-- So it is with an order that was taken.
 ends-by : (order : Order) (left room sense : List ℕ) → length left ≡ 11 → 22 ≤ length room → EndsBy left room (Submit.taken order sense)
 unfolding complete Complete.refusalOf
 ends-by order left room sense l r = rw (eq-eqb _ _ l, le-ltb _ _ r)
 
-abbrev numberIn : Submit.Outcome → ℕ
+-- The number that comes back.
+abbrev pub numberIn : Submit.Outcome → ℕ
 numberIn o = o .submitted .taken .number
 
 module _ (p : Pending) (command registers : List ℕ) (declared : ℕ) (sense : List ℕ) where
-  abbrev submission : Submit.Outcome
+  abbrev pub submission : Submit.Outcome
   submission = submit p command registers declared sense
 
   abbrev refusal : ℕ
@@ -136,7 +142,7 @@ module _ (p : Pending) (command registers : List ℕ) (declared : ℕ) (sense : 
   not-refused z = carried numberIn (accepted (eqb (protocol command) 15)) (Submit.refused p refusal sense) (eqb refusal 0) refusal refl refl z
 
   -- A refused command leaves the record that was given, makes no order, and writes what its row writes: nothing else changed.
-  abbrev Kept : Submit.Outcome → Type 0
+  abbrev pub Kept : Submit.Outcome → Type 0
   Kept o = (o .submitted .next ≡ p) × ((o .submitted .taken .order ≡ noOrder) × (o .sense ≡ refusedSense (numberIn o) sense))
 
   pub refusal-keeps-the-record : (numberIn submission ≡ 0 → ⊥) → Kept submission
@@ -163,10 +169,10 @@ module _ (p : Pending) (command registers : List ℕ) (declared : ℕ) (sense : 
 
 -- A refused completion leaves the record that was given, and writes what its row writes.
 module _ (p : Pending) (registers sense : List ℕ) where
-  abbrev completion : Complete.Outcome
+  abbrev pub completion : Complete.Outcome
   completion = complete p registers sense
 
-  abbrev KeptAtEnd : Complete.Outcome → Type 0
+  abbrev pub KeptAtEnd : Complete.Outcome → Type 0
   KeptAtEnd o = (o .completed .next ≡ p) × (o .sense ≡ refusedSense (o .completed .ended .number) sense)
 
   pub refused-completion-keeps-the-record : (completion .completed .ended .number ≡ 0 → ⊥) → KeptAtEnd completion

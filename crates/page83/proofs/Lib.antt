@@ -1,3 +1,4 @@
 -- The laws of page 83h, for the crates above.
 pub mod Laws
 pub mod Zero
+pub mod Theorems

@@ -23,6 +23,9 @@ alike true false f g = sym (f refl)
 alike false true f g = g refl
 alike false false f g = refl
 
+pub same-either-way : (x y : List ℕ) → sameDrive x y ≡ sameDrive y x
+same-either-way x y = alike (sameDrive x y) (sameDrive y x) (same-drive-turned-round x y) (same-drive-turned-round y x)
+
 -- Blocks of the same drive are told apart from others alike.
 pub same-alike : (x y : List ℕ) → sameDrive x y ≡ true → (d : List ℕ) → sameDrive d x ≡ sameDrive d y
 same-alike x y e d =
@@ -55,7 +58,7 @@ block-of (suc n) zero bytes h = refl
 block-of (suc n) (suc k) bytes h = block-of n k (drop 512 bytes) (le-of-suc-le-suc h) ∙ next-block k bytes
 
 -- Known in a list, or in what is put behind it.
-known-append : (b : List ℕ) (s t : List (List ℕ)) → known b (s ++ t) ≡ (known b s || known b t)
+pub known-append : (b : List ℕ) (s t : List (List ℕ)) → known b (s ++ t) ≡ (known b s || known b t)
 unfolding known
 known-append b [] t = refl
 known-append b (d ∷ s) t = ap (λ (x : Bool). sameDrive d b || x) (known-append b s t) ∙ sym (or-assoc (sameDrive d b) (known b s) (known b t))
@@ -67,7 +70,7 @@ known-same x y e [] = refl
 known-same x y e (d ∷ s) = rw (same-alike x y e d, known-same x y e s)
 
 -- With one block more its drive is known, and nothing else changes.
-known-met : (b x : List ℕ) (s : List (List ℕ)) → known b (met s x) ≡ (known b s || sameDrive x b)
+pub known-met : (b x : List ℕ) (s : List (List ℕ)) → known b (met s x) ≡ (known b s || sameDrive x b)
 unfolding known
 known-met b x s = by (known x s) (sameDrive x b) refl refl
   where
@@ -95,11 +98,15 @@ unfolding known
 unknown b [] z = refl
 unknown b (d ∷ run) z = rw (z 0 (omega arith)) (unknown b run (λ k h. z (suc k) (omega arith)))
 
--- The drives of a run with one block more.
+-- The drives of a run that goes on, and of one with one block more.
+pub drives-append : (seen run more : List (List ℕ)) → drivesFrom seen (run ++ more) ≡ drivesFrom (drivesFrom seen run) more
+unfolding drivesFrom
+drives-append seen [] more = refl
+drives-append seen (x ∷ run) more = drives-append (met seen x) run more
+
 pub drives-more : (seen run : List (List ℕ)) (b : List ℕ) → drivesFrom seen (run ++ (b ∷ [])) ≡ met (drivesFrom seen run) b
 unfolding drivesFrom
-drives-more seen [] b = refl
-drives-more seen (x ∷ run) b = drives-more (met seen x) run b
+drives-more seen run b = drives-append seen run (b ∷ [])
 
 -- Rows: of two blocks of one drive they are equal, a known drive keeps its own, and a new one gets the next.
 pub row-same : (x y : List ℕ) → sameDrive x y ≡ true → (s : List (List ℕ)) → rowIn s x ≡ rowIn s y
@@ -116,7 +123,7 @@ row-append x b (d ∷ s) h = by (sameDrive d x) h (row-append x b s)
     by true h r = refl
     by false h r = ap suc (r h)
 
-row-kept : (x b : List ℕ) (s : List (List ℕ)) → known x s ≡ true → rowIn (met s b) x ≡ rowIn s x
+pub row-kept : (x b : List ℕ) (s : List (List ℕ)) → known x s ≡ true → rowIn (met s b) x ≡ rowIn s x
 row-kept x b s h = by (known b s)
   where
     by : (k : Bool) → rowIn (cond k s (s ++ (b ∷ []))) x ≡ rowIn s x
@@ -164,7 +171,7 @@ drives-at-most seen (x ∷ run) = by (known x seen) (drives-at-most (met seen x)
 length-rows : (run s : List (List ℕ)) → length (map (rowIn s) run) ≡ length run
 length-rows run s = length-map run (rowIn s)
 
-row-at : (run s : List (List ℕ)) (k : ℕ) → k < length run → getD (map (rowIn s) run) k 0 ≡ rowIn s (getD run k [])
+pub row-at : (run s : List (List ℕ)) (k : ℕ) → k < length run → getD (map (rowIn s) run) k 0 ≡ rowIn s (getD run k [])
 row-at [] s k h = absurd (not-suc-le-zero h)
 row-at (x ∷ run) s zero h = refl
 row-at (x ∷ run) s (suc k) h = row-at run s k (le-of-suc-le-suc h)

@@ -85,6 +85,13 @@ turn {r} {s} {o} {at} {n} {i} v w h e =
       left = rw (e, k, add-one) (rw (drop-cons s i 0 l) at (w .left));
     }
 
+-- Two turns at once, for a loop that goes by words.
+pub pair-turn : {r s o : List ℕ} {at n i : ℕ} (v w : ℕ) → Writing r at s n o i → i + 1 < n → v ≡ getD s i 0 → w ≡ getD s (i + 1) 0 → Writing r at s n (set (set o (at + i) v) (at + i + 1) w) (i + 2)
+pair-turn {r} {s} {o} {at} {n} {i} v w x h e f =
+    let p : at + i + 1 ≡ at + (i + 1) = omega arith in
+    let q : i + 2 ≡ i + 1 + 1 = omega arith in
+    rw (p, q) (turn w (turn v x (omega arith) e) h f)
+
 pub done : {r s o : List ℕ} {at n i : ℕ} → Writing r at s n o i → n ≤ i → Wrote r at s o
 done {r} {s} {o} {at} {n} {i} w h =
     record {

@@ -1,10 +1,10 @@
 -- Laws of tests, and of checks in order.
 use mathlib.Core.Path.{_≡_, refl, sym, _∙_}
 use mathlib.Core.Bool.{Bool, true, false, cond, _&&_, _||_, not, and-eq-true-iff, true≢false}
-use mathlib.Core.List.{List, [], _∷_}
+use mathlib.Core.List.{List, [], _∷_, _++_}
 use Prim.Native.Nat.{ℕ}
 use lib.Dec.{eqb}
-use borrow.Author.Tests.{eq-eqb}
+use borrow.Author.Tests.{eq-eqb, not-true}
 use Rattle.rules.specs.Checks.{Check, first}
 
 -- No check of a list applies.
@@ -33,3 +33,14 @@ silent (check ∷ checks) n e =
 pub neither : (a b : Bool) → (a || b) ≡ false → (a ≡ false) × (b ≡ false)
 neither true b e = absurd (true≢false e)
 neither false b e = (refl, e)
+
+-- Checks in two runs: where the first run gives none, the second answers.
+pub first-of-two : (a b : List Check) → numbered a ≡ true → first (a ++ b) ≡ cond (eqb (first a) 0) (first b) (first a)
+first-of-two [] b n = refl
+first-of-two (check ∷ a) b n =
+    let both = and-eq-true-iff (not (eqb (check .number) 0)) (numbered a) .0 n in
+    step (check .applies) (check .number) (both .0) (first-of-two a b (both .1))
+    where
+    step : (t : Bool) (k : ℕ) → not (eqb k 0) ≡ true → first (a ++ b) ≡ cond (eqb (first a) 0) (first b) (first a) → cond t k (first (a ++ b)) ≡ cond (eqb (cond t k (first a)) 0) (first b) (cond t k (first a))
+    step true k h r = rw (not-true (eqb k 0) h)
+    step false k h r = r
