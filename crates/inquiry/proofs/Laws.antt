@@ -75,7 +75,7 @@ granted q sense e =
           };
       whole = ltb-false _ _ (short .0);
     }
-    where
+  where
     listed : (packet zero bad through : Bool) → through ≡ false → (packet && not through && zero && bad) ≡ false → (zero && packet && bad) ≡ false
     listed true true bad through h e = rw h at e
     listed true false bad through h e = refl

@@ -1,3 +1,2 @@
--- The laws of the entry's rules, and what they say of demands 1 and 2.
+-- The laws of the entry's rules.
 pub mod Laws
-pub mod Theorems

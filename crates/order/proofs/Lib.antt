@@ -1,4 +1,3 @@
--- The laws of pass-through orders, and what follows from the definitions alone.
+-- The laws of pass-through orders, and of functions over the lent record.
 pub mod Laws
 pub mod Thin
-pub mod Theorems

@@ -1,4 +1,3 @@
 -- The laws of page 83h, for the crates above.
 pub mod Laws
 pub mod Zero
-pub mod Theorems

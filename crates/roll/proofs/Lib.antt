@@ -1,3 +1,2 @@
--- The laws of the roll, and what they say of demand 3.
+-- The laws of the roll.
 pub mod Laws
-pub mod Theorems

@@ -40,7 +40,7 @@ first-of-two [] b n = refl
 first-of-two (check ∷ a) b n =
     let both = and-eq-true-iff (not (eqb (check .number) 0)) (numbered a) .0 n in
     step (check .applies) (check .number) (both .0) (first-of-two a b (both .1))
-    where
+  where
     step : (t : Bool) (k : ℕ) → not (eqb k 0) ≡ true → first (a ++ b) ≡ cond (eqb (first a) 0) (first b) (first a) → cond t k (first (a ++ b)) ≡ cond (eqb (cond t k (first a)) 0) (first b) (cond t k (first a))
     step true k h r = rw (not-true (eqb k 0) h)
     step false k h r = r

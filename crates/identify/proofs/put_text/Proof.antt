@@ -68,9 +68,11 @@ loop-again : tie.Need-loop-again Inv-loop μ-loop
 loop-again c =
     let l = c .before .before .before .before .before .loop in
     let a = c .before .before .before .before .before .before .before .before .before .args in
-    let b = length-text (shown (a .spaced)) (a .text .now) in
-    (pair-turn _ _ (l .inv .0) (c .before .before .before .before .loop-test .taken) (c .before .before .shown .ensures ∙ sym (word-first (shown (a .spaced)) (a .text .now) (l .i) (l .inv .1) (omega arith)))
-    (c .shown2 .ensures ∙ sym (word-second (shown (a .spaced)) (a .text .now) (l .i) (l .inv .1) (omega arith))), omega arith)
+    let b = length-text (shown (a .spaced)) (a .text .now) in (
+      pair-turn _ _ (l .inv .0) (c .before .before .before .before .loop-test .taken) (c .before .before .shown .ensures ∙ sym (word-first (shown (a .spaced)) (a .text .now) (l .i) (l .inv .1) (omega arith)))
+          (c .shown2 .ensures ∙ sym (word-second (shown (a .spaced)) (a .text .now) (l .i) (l .inv .1) (omega arith))),
+      omega arith,
+    )
 
 turned-at-requires : tie.Need-turned-at-requires Inv-loop μ-loop
 turned-at-requires c κs = search needs

@@ -1,0 +1,345 @@
+/*
+ * The board's side of the comparison test: a server around libpiongseut.a. It reads batches of calls from standard input, makes
+ * each call on exactly the lent bytes, which stand between guard bytes, and writes back all that there is to see afterwards.
+ * All numbers are little-endian.
+ *
+ * A batch:   u32 bytes that follow, then calls.
+ * A call:    u32 bytes that follow; u8 function (bit 7: with the record that the last call left, not the one sent);
+ *            u32 declared; the record, 28 bytes; u8 number of pieces; a piece: u32 size, its bytes.
+ * An answer: u32 bytes that follow; u8 function; u8 guard (0: untouched); the fields of what came back, in the header's order;
+ *            the record, 28 bytes; the bytes of every piece, the const ones too.
+ */
+#include "piongseut.h"
+
+#include <stdio.h>
+#include <stdlib.h>
+#include <string.h>
+#include <unistd.h>
+
+_Static_assert(sizeof(piongseut_order) == 24, "an order has padding");
+_Static_assert(sizeof(piongseut_pending) == 28, "a record has padding");
+
+enum { EMPTY, INQUIRY, SUBMIT, COMPLETE, WRITE, READ, ROLL, FUNCTIONS };
+
+#define GUARD 64
+#define PIECES 7
+#define RECORD_GUARD 255
+#define BATCH_MOST (4u << 20)
+
+static const unsigned pieces_of[FUNCTIONS] = {0, 7, 3, 2, 2, 1, 2};
+
+static uint8_t batch[BATCH_MOST];
+static uint8_t answers[4 * BATCH_MOST];
+static uint8_t arena[BATCH_MOST + (PIECES + 2) * (GUARD + 16)];
+static uint8_t guard[GUARD];
+
+static struct {
+    uint8_t before[GUARD];
+    piongseut_pending record;
+    uint8_t after[GUARD];
+} kept;
+
+static struct {
+    uint8_t *at;
+    size_t size;
+} piece[PIECES];
+
+static const uint8_t *in;
+static const uint8_t *in_end;
+static uint8_t *out;
+static unsigned calls;
+
+static void die(const char *why)
+{
+    fprintf(stderr, "board: %s\n", why);
+    exit(3);
+}
+
+/* ---- Reading a call ---- */
+
+static uint64_t take(unsigned bytes)
+{
+    uint64_t number = 0;
+    if ((size_t)(in_end - in) < bytes)
+        die("a call that is cut short");
+    for (unsigned at = 0; at < bytes; at++)
+        number |= (uint64_t)*in++ << (8 * at);
+    return number;
+}
+
+static void take_order(piongseut_order *order)
+{
+    order->length = (uint32_t)take(4);
+    order->features = (uint16_t)take(2);
+    order->count = (uint16_t)take(2);
+    order->lba_low = (uint16_t)take(2);
+    order->lba_mid = (uint16_t)take(2);
+    order->lba_high = (uint16_t)take(2);
+    order->quiet_seconds = (uint16_t)take(2);
+    order->sectors_per_block = (uint16_t)take(2);
+    order->device = (uint8_t)take(1);
+    order->command = (uint8_t)take(1);
+    order->protocol = (uint8_t)take(1);
+    order->ck_cond = (uint8_t)take(1);
+    order->extend = (uint8_t)take(1);
+    order->direction = (uint8_t)take(1);
+}
+
+static void take_record(int keep)
+{
+    piongseut_pending sent;
+    sent.state = (uint32_t)take(4);
+    take_order(&sent.order);
+    if (!keep)
+        kept.record = sent;
+    memcpy(kept.before, guard, GUARD);
+    memcpy(kept.after, guard, GUARD);
+}
+
+/* Lays the pieces out with a guard before the first and behind each. The start moves, so that a piece meets every alignment. */
+static void take_pieces(unsigned function)
+{
+    uint8_t *to = arena + calls++ % 16;
+    unsigned count = (unsigned)take(1);
+    if (count != pieces_of[function])
+        die("a wrong number of pieces");
+    for (unsigned at = 0; at < count; at++) {
+        size_t size = (size_t)take(4);
+        if ((size_t)(in_end - in) < size)
+            die("a piece that is cut short");
+        if (function == ROLL && at == 1 && ((uintptr_t)to & 1))
+            *to++ = guard[GUARD - 1]; /* rows are 16-bit numbers */
+        memcpy(to, guard, GUARD);
+        to += GUARD;
+        memcpy(to, in, size);
+        piece[at].at = to;
+        piece[at].size = size;
+        to += size;
+        in += size;
+        memcpy(to, guard, GUARD);
+        to += GUARD;
+    }
+}
+
+/* 0, or which piece's guard was changed. */
+static unsigned changed_guard(unsigned function)
+{
+    if (memcmp(kept.before, guard, GUARD) || memcmp(kept.after, guard, GUARD))
+        return RECORD_GUARD;
+    for (unsigned at = 0; at < pieces_of[function]; at++)
+        if (memcmp(piece[at].at - GUARD, guard, GUARD) || memcmp(piece[at].at + piece[at].size, guard, GUARD))
+            return at + 1;
+    return 0;
+}
+
+/* ---- Writing an answer ---- */
+
+static void put(uint64_t number, unsigned bytes)
+{
+    for (unsigned at = 0; at < bytes; at++)
+        *out++ = (uint8_t)(number >> (8 * at));
+}
+
+static void put_order(const piongseut_order *order)
+{
+    put(order->length, 4);
+    put(order->features, 2);
+    put(order->count, 2);
+    put(order->lba_low, 2);
+    put(order->lba_mid, 2);
+    put(order->lba_high, 2);
+    put(order->quiet_seconds, 2);
+    put(order->sectors_per_block, 2);
+    put(order->device, 1);
+    put(order->command, 1);
+    put(order->protocol, 1);
+    put(order->ck_cond, 1);
+    put(order->extend, 1);
+    put(order->direction, 1);
+}
+
+static void put_record(const piongseut_pending *record)
+{
+    put(record->state, 4);
+    put_order(&record->order);
+}
+
+/* ---- The calls ---- */
+
+#define LENT(n) piece[n].at, piece[n].size
+
+static void call_inquiry(void)
+{
+    piongseut_inquiry_answer answer =
+        piongseut_inquiry(LENT(0), LENT(1), LENT(2), LENT(3), LENT(4), LENT(5), LENT(6));
+    put(answer.number, 1);
+    put(answer.status, 1);
+    put(answer.shown, 1);
+    put(answer.count, 8);
+}
+
+static void call_submit(uint32_t declared)
+{
+    piongseut_taken taken = piongseut_submit(&kept.record, LENT(0), LENT(1), declared, LENT(2));
+    put(taken.number, 1);
+    put(taken.status, 1);
+    put_order(&taken.order);
+}
+
+static void call_complete(void)
+{
+    piongseut_ended ended = piongseut_complete(&kept.record, LENT(0), LENT(1));
+    put(ended.number, 1);
+    put(ended.status, 1);
+}
+
+static void call_write(void)
+{
+    piongseut_written written = piongseut_write_page83(LENT(0), LENT(1));
+    put(written.number, 1);
+    put(written.count, 8);
+}
+
+static void call_read(void)
+{
+    piongseut_name name = piongseut_read_page83(LENT(0));
+    put(name.number, 1);
+    put(name.form, 1);
+    for (unsigned at = 0; at < sizeof name.name; at++)
+        put(name.name[at], 1);
+}
+
+static void call_roll(void)
+{
+    piongseut_roll_answer answer = piongseut_roll(LENT(0), (uint16_t *)(void *)piece[1].at, piece[1].size / 2);
+    put(answer.number, 1);
+    put(answer.blocks, 2);
+    put(answer.drives, 2);
+}
+
+static void call(unsigned function, uint32_t declared)
+{
+    piongseut_pending empty;
+    switch (function) {
+    case EMPTY:
+        empty = piongseut_empty();
+        put_record(&empty);
+        break;
+    case INQUIRY: call_inquiry(); break;
+    case SUBMIT: call_submit(declared); break;
+    case COMPLETE: call_complete(); break;
+    case WRITE: call_write(); break;
+    case READ: call_read(); break;
+    default: call_roll(); break;
+    }
+}
+
+/*
+ * What a faulty board could do besides answering wrongly; compiled in on purpose, to see that the comparison finds it: a byte
+ * written behind or before a piece, a const byte changed, a byte written behind the record, an end in the middle of a call.
+ */
+#ifdef BOARD_FAULT
+static void spoil(unsigned function)
+{
+    if (BOARD_FAULT == 1 && function == ROLL)
+        piece[1].at[piece[1].size] ^= 1;
+    if (BOARD_FAULT == 2 && function == INQUIRY)
+        piece[5].at[-1] ^= 1;
+    if (BOARD_FAULT == 3 && function == WRITE && piece[0].size > 0)
+        piece[0].at[piece[0].size - 1] ^= 1;
+    if (BOARD_FAULT == 4 && function == COMPLETE)
+        kept.after[0] ^= 1;
+    if (BOARD_FAULT == 5 && function == READ && piece[0].size == 17)
+        _exit(4);
+}
+#else
+static void spoil(unsigned function)
+{
+    (void)function;
+}
+#endif
+
+/* Serves the call at `in`, which ends the sooner of its own size and the batch's end. */
+static void serve(void)
+{
+    uint32_t size = (uint32_t)take(4);
+    const uint8_t *end = in + size;
+    unsigned first = (unsigned)take(1);
+    unsigned function = first & 0x7F;
+    if (function >= FUNCTIONS)
+        die("no such function");
+    uint32_t declared = (uint32_t)take(4);
+    take_record(first & 0x80);
+    take_pieces(function);
+    if (in != end)
+        die("a call of a wrong size");
+    uint8_t *start = out;
+    out += 4;
+    put(function, 1);
+    uint8_t *guard_place = out++;
+    call(function, declared);
+    spoil(function);
+    *guard_place = (uint8_t)changed_guard(function);
+    put_record(&kept.record);
+    for (unsigned at = 0; at < pieces_of[function]; at++) {
+        memcpy(out, piece[at].at, piece[at].size);
+        out += piece[at].size;
+    }
+    uint8_t *answer_end = out;
+    out = start;
+    put((uint64_t)(answer_end - start) - 4, 4);
+    out = answer_end;
+}
+
+/* ---- Standard input and output ---- */
+
+/* Whether all the bytes came; an input that ends before the first is no error. */
+static int read_all(uint8_t *to, size_t size)
+{
+    size_t have = 0;
+    while (have < size) {
+        ssize_t more = read(0, to + have, size - have);
+        if (more < 0)
+            die("cannot read");
+        if (more == 0 && have == 0)
+            return 0;
+        if (more == 0)
+            die("the input ends inside a batch");
+        have += (size_t)more;
+    }
+    return 1;
+}
+
+static void write_all(const uint8_t *from, size_t size)
+{
+    while (size > 0) {
+        ssize_t done = write(1, from, size);
+        if (done <= 0)
+            die("cannot write");
+        from += done;
+        size -= (size_t)done;
+    }
+}
+
+int main(void)
+{
+    uint8_t head[4];
+    for (unsigned at = 0; at < GUARD; at++)
+        guard[at] = (uint8_t)(0xC3 ^ (at * 37));
+    while (read_all(head, 4)) {
+        in = head;
+        in_end = head + 4;
+        size_t size = (size_t)take(4);
+        if (size > BATCH_MOST)
+            die("a batch that is too large");
+        if (size > 0 && !read_all(batch, size))
+            die("the input ends before a batch");
+        in = batch;
+        in_end = batch + size;
+        out = answers;
+        while (in != in_end)
+            serve();
+        write_all(answers, (size_t)(out - answers));
+    }
+    return 0;
+}

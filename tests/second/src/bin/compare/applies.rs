@@ -1,0 +1,216 @@
+//! Which refusals apply to a call, each looked at alone: to see that every
+//! pair that can apply together was tried, and that the first one answered.
+
+use crate::call::{Call, COMPLETE, INQUIRY, READ, ROLL, SUBMIT, WRITE};
+
+/// A set of refusal numbers: bit n for number n.
+pub type Set = u32;
+
+/// The pairs that can apply together, by function. The fields of a command
+/// that is short or has another opcode are not looked at.
+pub const PAIRS: [(u8, &[(usize, usize)]); 4] = [
+    (INQUIRY, &IN_INQUIRY),
+    (SUBMIT, &IN_SUBMIT),
+    (COMPLETE, &[(1, 15)]),
+    (WRITE, &[(1, 8)]),
+];
+
+const IN_INQUIRY: [(usize, usize); 12] = [
+    (1, 2),
+    (1, 3),
+    (1, 4),
+    (1, 5),
+    (1, 6),
+    (1, 7),
+    (1, 8),
+    (4, 5),
+    (4, 6),
+    (4, 8),
+    (6, 8),
+    (7, 8),
+];
+
+const IN_SUBMIT: [(usize, usize); 25] = [
+    (1, 2),
+    (1, 3),
+    (1, 4),
+    (1, 9),
+    (1, 10),
+    (1, 11),
+    (1, 12),
+    (1, 13),
+    (1, 14),
+    (2, 10),
+    (3, 10),
+    (4, 9),
+    (4, 10),
+    (4, 11),
+    (4, 12),
+    (4, 13),
+    (4, 14),
+    (9, 10),
+    (10, 11),
+    (10, 12),
+    (10, 13),
+    (10, 14),
+    (11, 12),
+    (12, 13),
+    (12, 14),
+];
+
+fn set(conditions: &[(usize, bool)]) -> Set {
+    let held = conditions.iter().filter(|(_, holds)| *holds);
+    held.fold(0, |set, (number, _)| set | 1 << number)
+}
+
+/// The refusals that apply to the call.
+pub fn to(call: &Call) -> Set {
+    let sizes: Vec<usize> = call.pieces.iter().map(Vec::len).collect();
+    match call.function {
+        INQUIRY => to_inquiry(call, &sizes),
+        SUBMIT => to_submit(call, &sizes),
+        COMPLETE => set(&[
+            (1, sizes[0] != 11 || sizes[1] < 22),
+            (15, call.record.state == 0),
+        ]),
+        WRITE => {
+            let size = page83_size(&call.pieces[0]);
+            set(&[(1, sizes[0] != 512), (8, sizes[1] < size)])
+        }
+        READ => set(&[(16, second::read_page83(&call.pieces[0]).number != 0)]),
+        ROLL => set(&[(1, roll_is_refused(sizes[0], sizes[1] / 2))]),
+        _ => 0,
+    }
+}
+
+fn roll_is_refused(bytes: usize, rows: usize) -> bool {
+    !bytes.is_multiple_of(512) || bytes > 64 * 512 || rows < bytes / 512
+}
+
+fn page83_size(block: &[u8]) -> usize {
+    let name = block.get(216..224).unwrap_or(&[]);
+    if name.iter().any(|&byte| byte != 0) {
+        16
+    } else {
+        76
+    }
+}
+
+fn to_inquiry(call: &Call, sizes: &[usize]) -> Set {
+    let wrong_block = sizes[1] != 0 && sizes[1] != 512;
+    let wrong_size = wrong_block || sizes[2] != 20 || sizes[3] != 28 || sizes[6] < 22;
+    let command = &call.pieces[0];
+    let opcode = command.first() == Some(&0x12);
+    let before = set(&[
+        (1, wrong_size),
+        (2, command.is_empty() || opcode && command.len() < 6),
+        (3, !command.is_empty() && !opcode),
+    ]);
+    if before & 0b1100 != 0 {
+        return before;
+    }
+    if call.pieces[2].get(5..7) == Some(&[0x14, 0xEB]) {
+        return before | to_packet(call);
+    }
+    let (evpd, cmddt, page) = (command[1] & 1 != 0, command[1] & 2 != 0, command[2]);
+    let size = match (evpd, page) {
+        (false, _) => 36,
+        (true, 0x00) => 8,
+        (true, 0x80) => 24,
+        (true, 0x83) => page83_size(&call.pieces[1]),
+        (true, 0x89) => 572,
+        _ => 0,
+    };
+    let served = [0x00, 0x80, 0x83, 0x89].contains(&page);
+    let with_block = !evpd || page == 0x80 || page == 0x83;
+    let naca = command[5] & 4 != 0;
+    before
+        | set(&[
+            (4, naca || cmddt || !evpd && page != 0),
+            (5, evpd && !served),
+            (6, call.pieces[1].is_empty() && with_block),
+            (8, sizes[5] < size.min(allocation(command))),
+        ])
+}
+
+fn allocation(command: &[u8]) -> usize {
+    usize::from(command[3]) * 256 + usize::from(command[4])
+}
+
+fn to_packet(call: &Call) -> Set {
+    let (command, reply) = (&call.pieces[0], &call.pieces[4]);
+    let asked = (command[1] & 3, command[2]);
+    let size = match asked {
+        (1, 0x00) => 4 + list_size(reply).unwrap_or(0),
+        (1, 0x89) => 572,
+        _ => 0,
+    };
+    let short = call.pieces[5].len() < size.min(allocation(command));
+    set(&[
+        (7, asked == (1, 0x00) && list_size(reply).is_none()),
+        (8, short),
+    ])
+}
+
+/// The codes of a packet drive's page 00h with 89h, if it is usable.
+fn list_size(reply: &[u8]) -> Option<usize> {
+    let count = usize::from(*reply.get(3)?);
+    let codes = reply.get(4..4 + count)?;
+    let rises = (1..count).all(|at| codes[at - 1] < codes[at]);
+    let total = count + usize::from(!codes.contains(&0x89));
+    (reply[1] == 0 && rises && total < 256).then_some(total)
+}
+
+fn to_submit(call: &Call, sizes: &[usize]) -> Set {
+    let command = &call.pieces[0];
+    let size = match command.first() {
+        Some(0xA1) => 12,
+        Some(0x85) => 16,
+        _ => 0,
+    };
+    let protocol = command.get(1).map_or(0, |byte| byte >> 1 & 0x0F);
+    let before = set(&[
+        (1, sizes[1] != 11 || sizes[2] < 22),
+        (2, command.len() < size.max(1)),
+        (3, size == 0 && !command.is_empty()),
+        (10, call.record.state != 0 && protocol != 15),
+    ]);
+    if before & 0b1100 != 0 {
+        return before;
+    }
+    let naca = command[size - 1] & 4 != 0;
+    let unserved = [2, 7, 12, 13, 14].contains(&protocol);
+    before | set(&[(4, naca), (9, unserved)]) | to_transfer(call, size, protocol)
+}
+
+/// 11 to 14, of the protocols that they concern.
+fn to_transfer(call: &Call, size: usize, protocol: u8) -> Set {
+    let command = &call.pieces[0];
+    let (t_length, from_drive) = (command[2] & 3, command[2] & 8 != 0);
+    let wrong_direction = match protocol {
+        3 | 8 | 9 => return set(&[(11, t_length != 0)]),
+        4 | 10 => !from_drive,
+        5 | 11 => from_drive,
+        6 => false,
+        _ => return 0,
+    };
+    let extended = size == 16 && command[1] & 1 != 0;
+    let at = if size == 16 { [4, 6] } else { [3, 4] };
+    let number = |at: usize| {
+        let upper = if extended { command[at - 1] } else { 0 };
+        u64::from(upper) * 256 + u64::from(command[at])
+    };
+    let unit = if command[2] & 4 != 0 { 512 } else { 1 };
+    let declared = u64::from(call.declared);
+    let length = match t_length {
+        0 => return set(&[(11, true), (12, wrong_direction)]),
+        1 => unit * number(at[0]),
+        2 => unit * number(at[1]),
+        _ => declared,
+    };
+    set(&[
+        (12, wrong_direction),
+        (13, length == 0),
+        (14, length > declared),
+    ])
+}

@@ -1,0 +1,297 @@
+//! A call of one of the board's functions: its bytes on the way to the board,
+//! and what the second program answers, as the board would write it.
+
+use second::{Order, Record};
+
+pub const EMPTY: u8 = 0;
+pub const INQUIRY: u8 = 1;
+pub const SUBMIT: u8 = 2;
+pub const COMPLETE: u8 = 3;
+pub const WRITE: u8 = 4;
+pub const READ: u8 = 5;
+pub const ROLL: u8 = 6;
+
+pub const NAMES: [&str; 7] = [
+    "empty",
+    "inquiry",
+    "submit",
+    "complete",
+    "write_page83",
+    "read_page83",
+    "roll",
+];
+
+/// The lent pieces of each function, in the header's order.
+pub const PIECES: [&[&str]; 7] = [
+    &[],
+    &[
+        "command",
+        "block",
+        "signature",
+        "texts",
+        "reply",
+        "room",
+        "sense",
+    ],
+    &["command", "registers", "sense"],
+    &["registers", "sense"],
+    &["block", "room"],
+    &["page"],
+    &["blocks", "rows"],
+];
+
+/// Set in the function's byte: the board uses the record that it kept.
+const KEPT: u8 = 0x80;
+
+#[derive(Clone, Debug)]
+pub struct Call {
+    pub function: u8,
+    /// Whether the board uses the record that its last call left.
+    pub kept: bool,
+    pub declared: u32,
+    pub record: Record,
+    pub pieces: Vec<Vec<u8>>,
+}
+
+/// What the second program said, besides the bytes.
+#[derive(Clone, Copy)]
+pub struct Said {
+    pub number: u8,
+    pub record: Record,
+}
+
+impl Call {
+    pub fn new(function: u8, pieces: Vec<Vec<u8>>) -> Call {
+        Call {
+            function,
+            kept: false,
+            declared: 0,
+            record: Record::default(),
+            pieces,
+        }
+    }
+
+    pub fn record(mut self, record: Record) -> Call {
+        self.record = record;
+        self
+    }
+
+    pub fn declared(mut self, declared: u32) -> Call {
+        self.declared = declared;
+        self
+    }
+
+    pub fn piece(mut self, at: usize, bytes: Vec<u8>) -> Call {
+        self.pieces[at] = bytes;
+        self
+    }
+
+    /// The call as the board reads it.
+    pub fn encode(&self, out: &mut Vec<u8>) {
+        let start = out.len();
+        out.extend([0; 4]);
+        out.push(self.function | if self.kept { KEPT } else { 0 });
+        out.extend(self.declared.to_le_bytes());
+        put_record(&self.record, out);
+        out.push(self.pieces.len() as u8);
+        for piece in &self.pieces {
+            out.extend((piece.len() as u32).to_le_bytes());
+            out.extend(piece);
+        }
+        put_size(start, out);
+    }
+
+    /// The call that these bytes stand for, but never with a kept record.
+    pub fn decode(bytes: &[u8]) -> Option<Call> {
+        let mut from = Bytes(bytes.get(4..)?);
+        let function = from.number(1)? as u8 & !KEPT;
+        let declared = from.number(4)? as u32;
+        let record = from.record()?;
+        let count = from.number(1)? as usize;
+        if PIECES.get(usize::from(function))?.len() != count {
+            return None;
+        }
+        let mut pieces = Vec::new();
+        for _ in 0..count {
+            let size = from.number(4)? as usize;
+            pieces.push(from.take(size)?.to_vec());
+        }
+        let call = Call {
+            function,
+            kept: false,
+            declared,
+            record,
+            pieces,
+        };
+        from.0.is_empty().then_some(call)
+    }
+
+    /// Runs the second program on copies of the pieces, and writes down what
+    /// the board is to answer.
+    pub fn answer(&self, out: &mut Vec<u8>) -> Said {
+        let start = out.len();
+        out.extend([0; 4]);
+        out.push(self.function);
+        out.push(0); // no guard was changed
+        let mut record = self.record;
+        let number = match self.function {
+            EMPTY => answer_empty(&record, out),
+            INQUIRY => self.answer_inquiry(&record, out),
+            SUBMIT => self.answer_submit(&mut record, out),
+            COMPLETE => self.answer_complete(&mut record, out),
+            WRITE => self.answer_write(&record, out),
+            READ => self.answer_read(&record, out),
+            _ => self.answer_roll(&record, out),
+        };
+        put_size(start, out);
+        Said { number, record }
+    }
+
+    fn answer_inquiry(&self, record: &Record, out: &mut Vec<u8>) -> u8 {
+        let p = &self.pieces;
+        let (mut room, mut sense) = (p[5].clone(), p[6].clone());
+        let answer = second::inquiry(&p[0], &p[1], &p[2], &p[3], &p[4], &mut room, &mut sense);
+        out.extend([answer.number, answer.status, answer.shown]);
+        out.extend((answer.count as u64).to_le_bytes());
+        put_record(record, out);
+        p[..5].iter().for_each(|piece| out.extend(piece));
+        out.extend(&room);
+        out.extend(&sense);
+        answer.number
+    }
+
+    fn answer_submit(&self, record: &mut Record, out: &mut Vec<u8>) -> u8 {
+        let p = &self.pieces;
+        let mut sense = p[2].clone();
+        let taken = second::submit(record, &p[0], &p[1], self.declared, &mut sense);
+        out.extend([taken.number, taken.status]);
+        put_order(&taken.order, out);
+        put_record(record, out);
+        out.extend(&p[0]);
+        out.extend(&p[1]);
+        out.extend(&sense);
+        taken.number
+    }
+
+    fn answer_complete(&self, record: &mut Record, out: &mut Vec<u8>) -> u8 {
+        let p = &self.pieces;
+        let mut sense = p[1].clone();
+        let ended = second::complete(record, &p[0], &mut sense);
+        out.extend([ended.number, ended.status]);
+        put_record(record, out);
+        out.extend(&p[0]);
+        out.extend(&sense);
+        ended.number
+    }
+
+    fn answer_write(&self, record: &Record, out: &mut Vec<u8>) -> u8 {
+        let mut room = self.pieces[1].clone();
+        let written = second::write_page83(&self.pieces[0], &mut room);
+        out.push(written.number);
+        out.extend((written.count as u64).to_le_bytes());
+        put_record(record, out);
+        out.extend(&self.pieces[0]);
+        out.extend(&room);
+        written.number
+    }
+
+    fn answer_read(&self, record: &Record, out: &mut Vec<u8>) -> u8 {
+        let name = second::read_page83(&self.pieces[0]);
+        out.extend([name.number, name.form]);
+        out.extend(name.name);
+        put_record(record, out);
+        out.extend(&self.pieces[0]);
+        name.number
+    }
+
+    fn answer_roll(&self, record: &Record, out: &mut Vec<u8>) -> u8 {
+        let lent = self.pieces[1].chunks_exact(2);
+        let mut rows: Vec<u16> = lent
+            .map(|two| u16::from_le_bytes([two[0], two[1]]))
+            .collect();
+        let roll = second::roll(&self.pieces[0], &mut rows);
+        out.push(roll.number);
+        out.extend(roll.blocks.to_le_bytes());
+        out.extend(roll.drives.to_le_bytes());
+        put_record(record, out);
+        out.extend(&self.pieces[0]);
+        rows.iter().for_each(|row| out.extend(row.to_le_bytes()));
+        roll.number
+    }
+}
+
+fn answer_empty(record: &Record, out: &mut Vec<u8>) -> u8 {
+    put_record(&Record::default(), out);
+    put_record(record, out);
+    0
+}
+
+/// Writes the number of bytes behind `start` + 4 at `start`.
+fn put_size(start: usize, out: &mut [u8]) {
+    let size = (out.len() - start - 4) as u32;
+    out[start..start + 4].copy_from_slice(&size.to_le_bytes());
+}
+
+fn put_record(record: &Record, out: &mut Vec<u8>) {
+    out.extend(record.state.to_le_bytes());
+    put_order(&record.order, out);
+}
+
+fn put_order(order: &Order, out: &mut Vec<u8>) {
+    out.extend(order.length.to_le_bytes());
+    for number in [
+        order.features,
+        order.count,
+        order.lba_low,
+        order.lba_mid,
+        order.lba_high,
+        order.quiet_seconds,
+        order.sectors_per_block,
+    ] {
+        out.extend(number.to_le_bytes());
+    }
+    out.extend([order.device, order.command, order.protocol]);
+    out.extend([order.ck_cond, order.extend, order.direction]);
+}
+
+/// Bytes that are read from the front.
+pub struct Bytes<'a>(pub &'a [u8]);
+
+impl<'a> Bytes<'a> {
+    pub fn take(&mut self, size: usize) -> Option<&'a [u8]> {
+        let (front, rest) = self.0.split_at_checked(size)?;
+        self.0 = rest;
+        Some(front)
+    }
+
+    pub fn number(&mut self, size: usize) -> Option<u64> {
+        let bytes = self.take(size)?;
+        Some(bytes.iter().rev().fold(0, |n, &b| n << 8 | u64::from(b)))
+    }
+
+    pub fn order(&mut self) -> Option<Order> {
+        Some(Order {
+            length: self.number(4)? as u32,
+            features: self.number(2)? as u16,
+            count: self.number(2)? as u16,
+            lba_low: self.number(2)? as u16,
+            lba_mid: self.number(2)? as u16,
+            lba_high: self.number(2)? as u16,
+            quiet_seconds: self.number(2)? as u16,
+            sectors_per_block: self.number(2)? as u16,
+            device: self.number(1)? as u8,
+            command: self.number(1)? as u8,
+            protocol: self.number(1)? as u8,
+            ck_cond: self.number(1)? as u8,
+            extend: self.number(1)? as u8,
+            direction: self.number(1)? as u8,
+        })
+    }
+
+    pub fn record(&mut self) -> Option<Record> {
+        Some(Record {
+            state: self.number(4)? as u32,
+            order: self.order()?,
+        })
+    }
+}

@@ -1,0 +1,160 @@
+//! Pieces that the inputs are made of: blocks, signatures, texts, records.
+
+use crate::call::{self, Call};
+use second::{Order, Record};
+
+/// Fills lent room before a call, so that a written byte is seen.
+pub const FILL: u8 = 0xA5;
+
+pub fn room(size: usize) -> Vec<u8> {
+    vec![FILL; size]
+}
+
+/// Registers whose eleven bytes all differ; the status has no error bit.
+pub const REGISTERS: [u8; 11] = [
+    0x11, 0x22, 0x33, 0x44, 0x55, 0x66, 0x77, 0x88, 0x99, 0xAA, 0x50,
+];
+
+pub fn registers(status: u8) -> Vec<u8> {
+    let mut registers = REGISTERS.to_vec();
+    registers[10] = status;
+    registers
+}
+
+pub fn plain_signature() -> Vec<u8> {
+    let mut signature: Vec<u8> = (0x61..0x75).collect();
+    signature[5..7].fill(0);
+    signature
+}
+
+pub fn packet_signature() -> Vec<u8> {
+    let mut signature = plain_signature();
+    signature[5..7].copy_from_slice(&[0x14, 0xEB]);
+    signature
+}
+
+pub fn texts() -> Vec<u8> {
+    (0x41..0x5D).collect()
+}
+
+pub fn zero_block() -> Vec<u8> {
+    vec![0; 512]
+}
+
+/// Block 0 of document 01's roll: zero but for its name.
+pub fn block_0() -> Vec<u8> {
+    let mut block = zero_block();
+    block[216..224].copy_from_slice(&[0x00, 0x50, 0x00, 0xC5, 0x34, 0x12, 0x78, 0x56]);
+    block
+}
+
+/// A block without a name, whose neighbouring bytes differ.
+pub fn text_block() -> Vec<u8> {
+    let mut block: Vec<u8> = (0..512).map(|at| 1 + (at % 251) as u8).collect();
+    block[216..224].fill(0);
+    block
+}
+
+/// A block without a name whose texts hold zero bytes and spaces.
+pub fn holey_block() -> Vec<u8> {
+    let mut block = text_block();
+    for at in (20..94).step_by(3) {
+        block[at] = 0;
+    }
+    block[25] = 0x20;
+    block[60..64].copy_from_slice(&[0x20, 0, 0, 0x20]);
+    block
+}
+
+/// Blocks of every kind that a page can tell apart.
+pub fn blocks() -> Vec<Vec<u8>> {
+    let mut removable = text_block();
+    removable[0] |= 0x80;
+    let mut fixed = holey_block();
+    fixed[0] &= 0x7F;
+    let mut all = vec![zero_block(), block_0(), text_block(), holey_block()];
+    all.extend([removable, fixed, vec![0xFF; 512], vec![0x20; 512]]);
+    for at in 216..224 {
+        let mut one_bit = text_block();
+        one_bit[at] = 1 << (at % 8);
+        all.push(one_bit);
+    }
+    all
+}
+
+/// An order that is pending and that no command makes.
+pub fn odd_record(state: u32, ck_cond: u8, extend: u8) -> Record {
+    Record {
+        state,
+        order: Order {
+            length: 0xDEAD_BEEF,
+            features: 0x1122,
+            count: 0x3344,
+            lba_low: 0x5566,
+            lba_mid: 0x7788,
+            lba_high: 0x99AA,
+            quiet_seconds: 999,
+            sectors_per_block: 777,
+            device: 0xBB,
+            command: 0xCC,
+            protocol: 0xDD,
+            ck_cond,
+            extend,
+            direction: 0xEE,
+        },
+    }
+}
+
+/// An INQUIRY with ample room for a drive with block 0.
+pub fn inquiry(command: &[u8]) -> Call {
+    let pieces = vec![
+        command.to_vec(),
+        block_0(),
+        plain_signature(),
+        texts(),
+        Vec::new(),
+        room(600),
+        room(26),
+    ];
+    Call::new(call::INQUIRY, pieces)
+}
+
+/// An INQUIRY for a page, with an allocation length.
+pub fn inquiry_page(page: u8, allocation: u16) -> Call {
+    let [high, low] = allocation.to_be_bytes();
+    inquiry(&[0x12, 0x01, page, high, low, 0x00])
+}
+
+pub fn packet(mut call: Call, reply: &[u8]) -> Call {
+    call.pieces[2] = packet_signature();
+    call.pieces[4] = reply.to_vec();
+    call
+}
+
+/// A pass-through command with nothing pending.
+pub fn submit(command: &[u8], declared: u32) -> Call {
+    let pieces = vec![command.to_vec(), REGISTERS.to_vec(), room(26)];
+    Call::new(call::SUBMIT, pieces).declared(declared)
+}
+
+pub fn complete(record: Record, status: u8) -> Call {
+    Call::new(call::COMPLETE, vec![registers(status), room(26)]).record(record)
+}
+
+pub fn write(block: &[u8], size: usize) -> Call {
+    Call::new(call::WRITE, vec![block.to_vec(), room(size)])
+}
+
+pub fn read(page: &[u8]) -> Call {
+    Call::new(call::READ, vec![page.to_vec()])
+}
+
+/// A roll with room for so many rows.
+pub fn roll(blocks: &[u8], rows: usize) -> Call {
+    Call::new(call::ROLL, vec![blocks.to_vec(), room(2 * rows)])
+}
+
+/// The page 83h that a block has.
+pub fn page83(block: &[u8]) -> Vec<u8> {
+    second::page83::page83(block)
+}

@@ -1,0 +1,298 @@
+//! Compares the proved board with the second program, byte for byte.
+//!
+//! `compare all [seed=N] [calls=N] data=DIR -- BOARD...` tries every class of
+//! inputs; `compare first data=DIR -- BOARD...` ends at the first difference
+//! and leaves out the random inputs; `compare replay HEX -- BOARD...` shows
+//! both answers to one call, and reads the digits from standard input where
+//! HEX is `-`; `compare faults` names the faults that can be planted. Exit
+//! status 1 is a difference, 2 a test that could not be made.
+
+#![forbid(unsafe_code)]
+
+mod applies;
+mod board;
+mod call;
+mod inquiries;
+mod lent;
+mod numbers;
+mod orders;
+mod pages;
+mod random;
+mod rolls;
+mod show;
+mod soundings;
+
+use board::{Board, Talk};
+use call::{Call, NAMES};
+use std::io;
+use std::process::ExitCode;
+
+const SEED: u64 = 33_553_920;
+const CALLS: u64 = 3_000_000;
+
+struct Asked {
+    seed: u64,
+    calls: u64,
+    first: bool,
+    real: Vec<Vec<u8>>,
+    board: Vec<String>,
+}
+
+fn main() -> ExitCode {
+    let arguments: Vec<String> = std::env::args().skip(1).collect();
+    let done = match arguments.first().map(String::as_str) {
+        Some("all") => asked(&arguments[1..], false).and_then(run),
+        Some("first") => asked(&arguments[1..], true).and_then(run),
+        Some("replay") => replay(&arguments[1..]),
+        Some("faults") => {
+            second::fault::NAMES
+                .iter()
+                .for_each(|name| println!("{name}"));
+            Ok(true)
+        }
+        _ => Err(io::Error::other("usage: compare all|first|replay|faults")),
+    };
+    match done {
+        Ok(true) => ExitCode::SUCCESS,
+        Ok(false) => ExitCode::from(1),
+        Err(why) => {
+            eprintln!("compare: {why}");
+            ExitCode::from(2)
+        }
+    }
+}
+
+fn asked(arguments: &[String], first: bool) -> io::Result<Asked> {
+    let mut asked = Asked {
+        seed: SEED,
+        calls: if first { 0 } else { CALLS },
+        first,
+        real: Vec::new(),
+        board: behind_dashes(arguments)?,
+    };
+    let number = |text: &str| text.parse().map_err(io::Error::other);
+    for argument in arguments.iter().take_while(|argument| *argument != "--") {
+        match argument.split_once('=') {
+            Some(("seed", text)) => asked.seed = number(text)?,
+            Some(("calls", text)) => asked.calls = number(text)?,
+            Some(("data", folder)) => asked.real = real_blocks(folder)?,
+            _ => return Err(io::Error::other(format!("what is {argument}?"))),
+        }
+    }
+    Ok(asked)
+}
+
+/// The command that starts the board.
+fn behind_dashes(arguments: &[String]) -> io::Result<Vec<String>> {
+    let after = arguments.iter().skip_while(|argument| *argument != "--");
+    let board: Vec<String> = after.skip(1).cloned().collect();
+    if board.is_empty() {
+        return Err(io::Error::other("no board behind --"));
+    }
+    Ok(board)
+}
+
+/// The files `*.bin` of the folder, in the order of their names.
+fn real_blocks(folder: &str) -> io::Result<Vec<Vec<u8>>> {
+    let mut paths = Vec::new();
+    for entry in std::fs::read_dir(folder)? {
+        paths.push(entry?.path());
+    }
+    paths.retain(|path| path.extension().is_some_and(|end| end == "bin"));
+    paths.sort();
+    if paths.is_empty() {
+        return Err(io::Error::other(format!("no blocks in {folder}")));
+    }
+    paths.iter().map(std::fs::read).collect()
+}
+
+/// A class of inputs that takes nothing but the board.
+type Inputs = fn(&mut Board);
+
+const CLASSES: [(&str, Inputs); 23] = [
+    ("soundings C1 to C13", soundings::numbered),
+    ("the other soundings", soundings::others),
+    (
+        "orders: all fields, both opcodes, pending or not",
+        orders::fields,
+    ),
+    (
+        "orders: every byte 1, byte 2 and control",
+        orders::first_bytes,
+    ),
+    ("orders: lengths and declared lengths", orders::lengths),
+    ("orders: refusals alone and together", orders::refusals),
+    ("orders: sizes of lent pieces", orders::sizes),
+    ("orders: completion with every status", orders::completions),
+    ("orders: records with odd contents", orders::odd_records),
+    ("inquiry: refusals alone and together", inquiries::refusals),
+    ("inquiry: sizes of lent pieces", inquiries::sizes),
+    ("inquiry: pages, cuts and room", inquiries::cuts),
+    ("inquiry: allocation lengths", inquiries::allocation_lengths),
+    ("inquiry: all page codes and flags", inquiries::all_pages),
+    ("inquiry: word 0", inquiries::first_word),
+    ("inquiry: signatures", inquiries::signatures),
+    ("packet: replies that pass", inquiries::passed),
+    ("packet: 89h at every place of page 00h", inquiries::lists),
+    ("packet: unusable lists", inquiries::unusable_lists),
+    ("page 83h: written and read back", pages_written),
+    ("page 83h: every byte damaged", pages::damaged),
+    ("page 83h: cut, extended, mixed", pages::resized),
+    ("roll: sizes and rows", rolls::sizes),
+];
+
+fn pages_written(board: &mut Board) {
+    pages::written(board);
+    pages::changed_blocks(board);
+    pages::read_back(board);
+}
+
+/// Tries everything, and prints what was covered. Back: no difference.
+fn run(asked: Asked) -> io::Result<bool> {
+    let mut board = Board::start(&asked.board, asked.first)?;
+    println!("seed {}", asked.seed);
+    for (name, inputs) in CLASSES {
+        if board.is_done() {
+            break;
+        }
+        board.class(name);
+        inputs(&mut board);
+    }
+    let agree = board.is_done() || seeded(&mut board, &asked);
+    let found = board.finish()?;
+    let mut report = Report::default();
+    for (class, differences) in board.classes.iter().zip(&found) {
+        let given: Vec<String> = (0..17)
+            .filter(|&number| class.numbers & 1 << number != 0)
+            .map(|number: u32| number.to_string())
+            .collect();
+        let (name, calls, given) = (class.name, class.calls, given.join(" "));
+        let text = format!("{name}: {calls} calls, numbers {given}");
+        report.check(*differences == 0, &text);
+    }
+    if !asked.first {
+        coverage(&board, agree, &mut report);
+        let calls: u64 = board.classes.iter().map(|class| class.calls).sum();
+        println!("calls: {calls}, differences: {}", found.iter().sum::<u64>());
+    }
+    println!(
+        "compare: {} passed, {} failed",
+        report.passed, report.failed
+    );
+    Ok(report.failed == 0)
+}
+
+/// The classes that take a seed or the real blocks. Back: whether rows and
+/// pages agreed.
+fn seeded(board: &mut Board, asked: &Asked) -> bool {
+    board.class("roll: planted twins");
+    rolls::twins(board, asked.seed);
+    board.class("roll: one byte differs");
+    rolls::one_byte(board);
+    board.class("roll: rows and pages 83h");
+    let agree = rolls::pages_agree(board, asked.seed);
+    board.class("real drives");
+    soundings::real_drives(board, &asked.real);
+    board.class("sequences through one record");
+    orders::sequences(board, asked.seed);
+    if asked.calls > 0 {
+        board.class("random and damaged inputs");
+        random::calls(board, asked.seed, asked.calls, &asked.real);
+    }
+    agree
+}
+
+#[derive(Default)]
+struct Report {
+    passed: u32,
+    failed: u32,
+}
+
+impl Report {
+    fn check(&mut self, held: bool, text: &str) {
+        println!("{} {text}", if held { "ok" } else { "not ok" });
+        *(if held {
+            &mut self.passed
+        } else {
+            &mut self.failed
+        }) += 1;
+    }
+}
+
+/// What was covered, and what the second program's own answers show.
+fn coverage(board: &Board, agree: bool, report: &mut Report) {
+    report.check(
+        agree,
+        "roll: the same row exactly if the pages 83h are equal",
+    );
+    report.check(
+        cover(&board.counts),
+        "every function gave every number it can",
+    );
+    report.check(
+        board.not_first == 0,
+        "the first refusal that applies answered",
+    );
+    for (at, numbers) in GIVEN.iter().enumerate().skip(1) {
+        let alone = |number: &usize| board.applied[at].contains(&(1 << number));
+        let held = numbers[1..].iter().all(alone);
+        report.check(held, &format!("{}: each refusal alone", NAMES[at]));
+    }
+    for (function, pairs) in applies::PAIRS {
+        let sets = &board.applied[usize::from(function)];
+        let tried = |a: usize, b: usize| sets.iter().any(|set| set >> a & set >> b & 1 == 1);
+        let missing: Vec<_> = pairs.iter().filter(|(a, b)| !tried(*a, *b)).collect();
+        let (all, name) = (pairs.len(), NAMES[usize::from(function)]);
+        let text = format!(
+            "{name}: pairs of refusals, {} of {all}",
+            all - missing.len()
+        );
+        report.check(missing.is_empty(), &text);
+        missing.iter().for_each(|pair| println!("  not {pair:?}"));
+    }
+}
+
+/// The numbers that each function can give, as the header says.
+const GIVEN: [&[usize]; 7] = [
+    &[0],
+    &[0, 1, 2, 3, 4, 5, 6, 7, 8],
+    &[0, 1, 2, 3, 4, 9, 10, 11, 12, 13, 14],
+    &[0, 1, 15],
+    &[0, 1, 8],
+    &[0, 16],
+    &[0, 1],
+];
+
+/// Prints how often each number was given. Back: every one that can be was.
+fn cover(counts: &[[u64; 17]; NAMES.len()]) -> bool {
+    let mut all = true;
+    for (at, of_function) in counts.iter().enumerate() {
+        let total: u64 = of_function.iter().sum();
+        let mut line = format!("piongseut_{}: {total} calls; number", NAMES[at]);
+        for &number in GIVEN[at] {
+            line += &format!(" {number}: {},", of_function[number]);
+            all &= of_function[number] > 0;
+        }
+        println!("{}", line.trim_end_matches(','));
+    }
+    all
+}
+
+/// Shows both answers to the call that the digits stand for.
+fn replay(arguments: &[String]) -> io::Result<bool> {
+    let mut digits = arguments.first().cloned().unwrap_or_default();
+    if digits == "-" {
+        io::stdin().read_line(&mut digits)?;
+    }
+    let request = show::from_hex(digits.trim_start_matches('-').trim()).unwrap_or_default();
+    let call = Call::decode(&request).ok_or_else(|| io::Error::other("no call in these digits"))?;
+    let (mut sent, mut wanted) = (Vec::new(), Vec::new());
+    call.encode(&mut sent);
+    call.answer(&mut wanted);
+    let mut talk = Talk::start(&behind_dashes(arguments)?)?;
+    let given = talk.ask(&sent, wanted.len()).ok();
+    let equal = given.as_deref() == Some(&wanted[..]);
+    let head = if equal { "equal" } else { "DIFFERENT" };
+    print!("{}", show::both(head, &sent, &wanted, given.as_deref()));
+    Ok(equal)
+}

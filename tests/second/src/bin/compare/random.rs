@@ -1,0 +1,220 @@
+//! Seeded random and damaged inputs of every function.
+
+use crate::board::Board;
+use crate::call::{Call, COMPLETE, INQUIRY, ROLL};
+use crate::lent;
+use crate::numbers::Numbers;
+
+/// So many calls over all functions.
+pub fn calls(board: &mut Board, seed: u64, count: u64, real: &[Vec<u8>]) {
+    let mut numbers = Numbers::new(seed);
+    let mut known = lent::blocks();
+    known.extend(real.iter().cloned());
+    for _ in 0..count {
+        if board.is_done() {
+            return;
+        }
+        let mut call = match numbers.below(100) {
+            0..=39 => submit(&mut numbers),
+            40..=55 => complete(&mut numbers),
+            56..=76 => inquiry(&mut numbers, &known),
+            77..=86 => read(&mut numbers, &known),
+            87..=97 => write(&mut numbers, &known),
+            _ => roll(&mut numbers, &known),
+        };
+        if numbers.once_in(3) {
+            damage(&mut call, &mut numbers);
+        }
+        board.call(&call);
+    }
+}
+
+/// Changes, cuts or extends one of the lent pieces.
+fn damage(call: &mut Call, numbers: &mut Numbers) {
+    let at = numbers.below(call.pieces.len());
+    let piece = &mut call.pieces[at];
+    match numbers.below(3) {
+        0 if !piece.is_empty() => {
+            let place = numbers.below(piece.len());
+            piece[place] = numbers.byte();
+        }
+        1 => piece.truncate(piece.len().saturating_sub(1 + numbers.below(4))),
+        _ => {
+            let more = numbers.below(4);
+            piece.extend(numbers.bytes(more));
+        }
+    }
+    if call.function == ROLL && call.pieces[1].len() % 2 == 1 {
+        call.pieces[1].pop();
+    }
+}
+
+fn block(numbers: &mut Numbers, known: &[Vec<u8>]) -> Vec<u8> {
+    if numbers.once_in(3) {
+        return numbers.bytes(512);
+    }
+    let mut block = known[numbers.below(known.len())].clone();
+    for _ in 0..numbers.below(6) {
+        let field = numbers.pick(&[(0, 2), (20, 20), (54, 40), (216, 8), (0, 512)]);
+        let at = field.0 + numbers.below(field.1);
+        block[at] = if numbers.once_in(2) {
+            0
+        } else {
+            numbers.byte()
+        };
+    }
+    if numbers.once_in(4) {
+        block[216..224].fill(0);
+    }
+    block
+}
+
+fn submit(numbers: &mut Numbers) -> Call {
+    let mut command = numbers.bytes(16);
+    command[0] = numbers.pick(&[0x85, 0xA1]);
+    let control = if command[0] == 0x85 { 15 } else { 11 };
+    if !numbers.once_in(8) {
+        command[control] &= 0xFB;
+    }
+    if numbers.once_in(2) {
+        // A protocol with data and a T_DIR that fits it.
+        let from_drive = numbers.once_in(2);
+        let protocol = if from_drive { [4, 6, 10] } else { [5, 6, 11] };
+        command[1] = command[1] & 0xE1 | numbers.pick(&protocol) << 1;
+        command[2] = command[2] & 0xF7 | u8::from(from_drive) << 3;
+    }
+    let declared = match numbers.below(4) {
+        0 => u32::MAX,
+        1 => numbers.next() as u32,
+        2 => 512 * u32::from(numbers.byte()),
+        _ => u32::from(numbers.byte()),
+    };
+    let mut call = lent::submit(&command, declared);
+    call.pieces[1] = numbers.bytes(11);
+    call.pieces[2] = numbers.bytes(22);
+    if numbers.once_in(4) {
+        odd_record(&mut call, numbers);
+    }
+    call
+}
+
+/// A record of any bytes; its state is 0 in one of two.
+fn odd_record(call: &mut Call, numbers: &mut Numbers) {
+    let state = if numbers.once_in(2) {
+        0
+    } else {
+        numbers.next() as u32
+    };
+    let (ck_cond, extend) = (numbers.pick(&[0, 1, 200]), numbers.pick(&[0, 1, 9]));
+    call.record = lent::odd_record(state, ck_cond, extend);
+    call.record.order.length = numbers.next() as u32;
+    call.record.order.protocol = numbers.byte();
+}
+
+fn complete(numbers: &mut Numbers) -> Call {
+    let mut call = Call::new(COMPLETE, vec![numbers.bytes(11), numbers.bytes(22)]);
+    odd_record(&mut call, numbers);
+    call.record.state |= u32::from(!numbers.once_in(4));
+    if numbers.once_in(2) {
+        call.pieces[0][10] &= 0xDE;
+    }
+    call
+}
+
+fn inquiry(numbers: &mut Numbers, known: &[Vec<u8>]) -> Call {
+    let command = inquiry_command(numbers);
+    let block = match numbers.below(8) {
+        0 => Vec::new(),
+        _ => block(numbers, known),
+    };
+    let room = match numbers.below(2) {
+        0 => 572,
+        _ => numbers.below(600),
+    };
+    let reply = match numbers.below(2) {
+        0 => list(numbers),
+        _ => Vec::new(),
+    };
+    let mut pieces = vec![command, block, numbers.bytes(20), numbers.bytes(28)];
+    pieces.extend([reply, numbers.bytes(room), numbers.bytes(22)]);
+    if numbers.once_in(3) {
+        pieces[2][5..7].copy_from_slice(&[0x14, 0xEB]);
+    }
+    Call::new(INQUIRY, pieces)
+}
+
+/// Mostly a command that is served.
+fn inquiry_command(numbers: &mut Numbers) -> Vec<u8> {
+    let page = match numbers.below(8) {
+        0 => numbers.byte(),
+        _ => numbers.pick(&[0x00, 0x80, 0x83, 0x89]),
+    };
+    let byte_1 = match numbers.below(8) {
+        0 => numbers.byte(),
+        1 => u8::from(page == 0),
+        _ => u8::from(page != 0),
+    };
+    let allocation = match numbers.below(3) {
+        0 => numbers.next() as u16,
+        1 => numbers.below(600) as u16,
+        _ => numbers.below(80) as u16,
+    };
+    let control = match numbers.below(8) {
+        0 => numbers.byte(),
+        _ => 0,
+    };
+    let [high, low] = allocation.to_be_bytes();
+    vec![0x12, byte_1, page, high, low, control]
+}
+
+/// A packet drive's page 00h, mostly usable.
+fn list(numbers: &mut Numbers) -> Vec<u8> {
+    let step = 1 + numbers.below(40);
+    let mut codes: Vec<u8> = (0..=0xFF).step_by(step).collect();
+    codes.retain(|_| !numbers.once_in(5));
+    let mut reply = vec![numbers.byte(), 0x00, numbers.byte(), codes.len() as u8];
+    reply.extend(codes);
+    let after = numbers.below(3);
+    reply.extend(numbers.bytes(after));
+    if numbers.once_in(4) {
+        let at = numbers.below(reply.len());
+        reply[at] = numbers.byte();
+    }
+    reply
+}
+
+fn read(numbers: &mut Numbers, known: &[Vec<u8>]) -> Call {
+    if numbers.once_in(20) {
+        let size = numbers.pick(&[0, 15, 16, 17, 75, 76, 77, 200]);
+        return lent::read(&numbers.bytes(size));
+    }
+    lent::read(&lent::page83(&block(numbers, known)))
+}
+
+fn write(numbers: &mut Numbers, known: &[Vec<u8>]) -> Call {
+    let room = numbers.pick(&[0, 15, 16, 75, 76, 80]);
+    let block = block(numbers, known);
+    let mut call = lent::write(&block, 0);
+    call.pieces[1] = numbers.bytes(room);
+    call
+}
+
+fn roll(numbers: &mut Numbers, known: &[Vec<u8>]) -> Call {
+    let most = if numbers.once_in(10) { 67 } else { 9 };
+    let count = numbers.below(most);
+    let mut blocks: Vec<Vec<u8>> = Vec::new();
+    for at in 0..count {
+        if at > 0 && numbers.once_in(2) {
+            let twin = blocks[numbers.below(at)].clone();
+            blocks.push(twin);
+            let place = numbers.below(512);
+            blocks[at][place] = numbers.pick(&[0x00, 0x20, 0x41]);
+        } else {
+            blocks.push(block(numbers, known));
+        }
+    }
+    let mut call = lent::roll(&blocks.concat(), 0);
+    let rows = count + numbers.below(3);
+    call.pieces[1] = numbers.bytes(2 * rows);
+    call
+}

@@ -1,0 +1,122 @@
+//! Inputs of the roll. They are large, so there are fewer of them.
+
+use crate::board::Board;
+use crate::lent;
+use crate::numbers::Numbers;
+
+/// 64 different drives: by name, by model, by serial, or by one byte alone.
+fn different() -> Vec<Vec<u8>> {
+    (0..64_u8)
+        .map(|at| {
+            let mut block = lent::text_block();
+            match at % 4 {
+                0 => block[216 + usize::from(at / 8)] = at + 1,
+                1 => block[20 + usize::from(at / 4)] = 0xF0,
+                2 => block[54 + usize::from(at / 2)] = 0xF1,
+                _ => block[93] = 0x80 + at,
+            }
+            block
+        })
+        .collect()
+}
+
+/// Changes that leave a drive the same: other words, and zeros for spaces.
+fn twin(block: &[u8], numbers: &mut Numbers) -> Vec<u8> {
+    let mut twin = block.to_vec();
+    let named = twin[216..224].iter().any(|&byte| byte != 0);
+    for at in (0..512).filter(|at| !(216..224).contains(at)) {
+        let text = (20..40).contains(&at) || (54..94).contains(&at);
+        if named || !text {
+            twin[at] = numbers.byte();
+        } else if twin[at] == 0x20 || twin[at] == 0x00 {
+            twin[at] = numbers.pick(&[0x00, 0x20]);
+        }
+    }
+    twin
+}
+
+/// 0, 1, 2, 63, 64, 65 and more blocks, odd sizes, rows of n - 1, n, n + 1.
+pub fn sizes(board: &mut Board) {
+    let all = different().concat();
+    for count in [0, 1, 2, 3, 63, 64, 65, 66, 128] {
+        let mut blocks = all.clone();
+        blocks.resize(512 * count, 0x41);
+        for more in [-512, -511, -2, -1, 0, 1, 2, 511, 513_isize] {
+            let size = blocks.len().saturating_add_signed(more);
+            let mut other = blocks.clone();
+            other.resize(size, 0x42);
+            for rows in [0, 1, count.saturating_sub(1), count, count + 1, 70] {
+                board.call(&lent::roll(&other, rows));
+            }
+        }
+    }
+}
+
+/// Twins planted at every place of a full roll, and of short ones.
+pub fn twins(board: &mut Board, seed: u64) {
+    let mut numbers = Numbers::new(seed);
+    let drives = different();
+    for at in 0..64 {
+        let mut planted = drives.clone();
+        let first = numbers.below(64);
+        planted[at] = twin(&drives[first], &mut numbers);
+        let third = numbers.below(64);
+        planted[third] = twin(&drives[at], &mut numbers);
+        board.call(&lent::roll(&planted.concat(), 64));
+    }
+    for kinds in [1, 2, 3, 8, 20] {
+        for count in [2, 5, 17, 64] {
+            let rolled: Vec<Vec<u8>> = (0..count)
+                .map(|_| twin(&drives[numbers.below(kinds)], &mut numbers))
+                .collect();
+            board.call(&lent::roll(&rolled.concat(), count + 2));
+        }
+    }
+}
+
+/// Two blocks that differ in one byte, for every byte, of every kind.
+pub fn one_byte(board: &mut Board) {
+    let mut blank = lent::zero_block();
+    blank[20..94].fill(0x20);
+    let bases = [lent::text_block(), lent::block_0(), lent::holey_block()];
+    for base in bases.iter().chain([&blank, &lent::zero_block()]) {
+        for at in 0..512 {
+            for value in [0x00, 0x20, base[at] ^ 1] {
+                let mut other = base.clone();
+                other[at] = value;
+                board.call(&lent::roll(&[&base[..], &other].concat(), 2));
+            }
+        }
+    }
+}
+
+/// The sample of document 01.
+pub fn sample() -> Vec<u8> {
+    let (first, mut second) = (lent::block_0(), lent::block_0());
+    second[20] = 0x41;
+    [first, second, lent::zero_block()].concat()
+}
+
+/// Names, rows and pages of a roll: two blocks have the same row exactly if
+/// their pages 83h are equal. Back: whether that held.
+pub fn pages_agree(board: &mut Board, seed: u64) -> bool {
+    let mut numbers = Numbers::new(seed);
+    let drives = different();
+    let mut agree = true;
+    for _ in 0..40 {
+        let picked: Vec<Vec<u8>> = (0..24)
+            .map(|_| twin(&drives[numbers.below(16)], &mut numbers))
+            .collect();
+        let blocks = picked.concat();
+        board.call(&lent::roll(&blocks, 24));
+        let mut rows = [0; 24];
+        second::roll(&blocks, &mut rows);
+        for (at, block) in picked.iter().enumerate() {
+            board.call(&lent::write(block, 80));
+            let same = |&other: &usize| rows[other] == rows[at];
+            let equal = |&other: &usize| lent::page83(&picked[other]) == lent::page83(block);
+            agree &= (0..24).all(|other| same(&other) == equal(&other));
+        }
+    }
+    agree
+}

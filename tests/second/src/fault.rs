@@ -1,0 +1,50 @@
+//! Faults that are planted on purpose, one at a time, to see that the
+//! comparison finds them. Without the feature `faults` there is none.
+
+use std::sync::OnceLock;
+
+/// Wrong boards of document 01 ("These must not satisfy it"), its easy slips,
+/// and some more.
+pub const NAMES: &[&str] = &[
+    "inquiry-refuses-all",
+    "submit-refuses-all",
+    "complete-refuses-all",
+    "write-refuses-all",
+    "read-refuses-all",
+    "roll-refuses-all",
+    "one-reply-for-all-drives",
+    "inquiry-writes-nothing",
+    "submit-writes-nothing",
+    "complete-writes-nothing",
+    "write-writes-nothing",
+    "roll-writes-nothing",
+    "first-order-only",
+    "first-row-only",
+    "invented-lengths",
+    "invented-drive-count",
+    "length-field-shrinks-with-the-cut",
+    "page-89h-turned",
+    "product-zeros-made-spaces",
+    "direction-from-opcode",
+    "record-cleared-by-protocol-15",
+    "count-0-is-256",
+    "room-for-the-whole-page",
+    "busy-before-protocol",
+    "upper-bytes-without-extend",
+    "roll-keeps-zeros-apart",
+    "roll-by-sixteen-letters",
+    "reader-takes-a-tail",
+    "reader-takes-name-zero",
+    "89h-at-the-end",
+    "89h-twice",
+];
+
+/// Whether this fault is planted: named by the variable SECOND_FAULT.
+pub fn planted(name: &str) -> bool {
+    cfg!(feature = "faults") && chosen() == name
+}
+
+fn chosen() -> &'static str {
+    static CHOSEN: OnceLock<String> = OnceLock::new();
+    CHOSEN.get_or_init(|| std::env::var("SECOND_FAULT").unwrap_or_default())
+}

@@ -1,0 +1,217 @@
+//! INQUIRY: "12h, 6 bytes".
+
+use crate::packet::is_packet_drive;
+use crate::{fault, lent, packet, page83, pages, refusal};
+
+/// `shown` for "a part of the drive's reply".
+pub const SHOWS_REPLY: u8 = 0;
+/// `shown` for "a part of the output room".
+pub const SHOWS_ROOM: u8 = 1;
+
+/// The answer to INQUIRY: the first `count` bytes of what `shown` names.
+#[derive(Clone, Copy, Debug, PartialEq, Eq)]
+pub struct Inquiry {
+    pub number: u8,
+    pub status: u8,
+    pub shown: u8,
+    pub count: usize,
+}
+
+/// "byte 1 bit 0 EVPD, bit 1 CMDDT, byte 2 page code, bytes 3-4 allocation
+/// length (high byte first), byte 5 control. Other bits are ignored (*house*)."
+struct Asked {
+    evpd: bool,
+    cmddt: bool,
+    page_code: u8,
+    allocation: usize,
+    naca: bool,
+}
+
+/// What is to be shown, decided before a byte is written.
+enum Answer {
+    /// So many bytes of the drive's own reply.
+    Reply(usize),
+    /// These bytes, which go into the output room.
+    Page(Vec<u8>),
+}
+
+/// Answers INQUIRY.
+pub fn inquiry(
+    command: &[u8],
+    block: &[u8],
+    signature: &[u8],
+    texts: &[u8],
+    reply: &[u8],
+    room: &mut [u8],
+    sense: &mut [u8],
+) -> Inquiry {
+    if !sizes_are_right(block, signature, texts, sense) {
+        return refuse(refusal::SIZE, sense);
+    }
+    if fault::planted("inquiry-refuses-all") {
+        return refuse(refusal::FIELD, sense);
+    }
+    let block = the_drive_answered_for(block);
+    let answer = read_command(command).and_then(|asked| {
+        if is_packet_drive(signature) {
+            packet_answer(&asked, block, signature, texts, reply)
+        } else {
+            plain_answer(&asked, block, signature, texts)
+        }
+    });
+    match answer {
+        Err(number) => refuse(number, sense),
+        Ok(Answer::Reply(count)) => accept(SHOWS_REPLY, count),
+        Ok(Answer::Page(bytes)) => write(&bytes, room, sense),
+    }
+}
+
+/// The block itself, but for a planted fault.
+fn the_drive_answered_for(block: &[u8]) -> &[u8] {
+    if fault::planted("one-reply-for-all-drives") && block.len() == 512 {
+        return &pages::NO_BLOCK;
+    }
+    block
+}
+
+/// 1: "a lent piece breaks the sizes above". The reply and the output room
+/// have no size rule.
+fn sizes_are_right(block: &[u8], signature: &[u8], texts: &[u8], sense: &[u8]) -> bool {
+    lent::block_size_is_right(block)
+        && lent::signature_size_is_right(signature)
+        && lent::texts_size_is_right(texts)
+        && lent::sense_size_is_right(sense)
+}
+
+/// "empty command 2; opcode 3; short command 2"; "Command bytes beyond the
+/// command's size are ignored."
+fn read_command(command: &[u8]) -> Result<Asked, u8> {
+    if command.is_empty() {
+        return Err(refusal::SHORT);
+    }
+    if command[0] != 0x12 {
+        return Err(refusal::OPCODE);
+    }
+    if command.len() < 6 {
+        return Err(refusal::SHORT);
+    }
+    Ok(Asked {
+        evpd: command[1] & 0x01 != 0,
+        cmddt: command[1] & 0x02 != 0,
+        page_code: command[2],
+        allocation: usize::from(u16::from_be_bytes([command[3], command[4]])),
+        naca: command[5] & 0x04 != 0,
+    })
+}
+
+/// The answer for a drive that is not a packet drive.
+fn plain_answer(asked: &Asked, block: &[u8], signature: &[u8], texts: &[u8]) -> Result<Answer, u8> {
+    check_fields(asked)?;
+    check_page(asked)?;
+    check_block(asked, block)?;
+    let page = match (asked.evpd, asked.page_code) {
+        (false, _) => pages::standard_data(block),
+        (true, 0x00) => pages::page00(),
+        (true, 0x80) => pages::page80(block),
+        (true, 0x83) => page83::page83(block),
+        (true, _) => pages::page89(block, signature, texts, false),
+    };
+    Ok(cut(page, asked))
+}
+
+/// 4: "NACA (control byte bit 2) is one; for INQUIRY also CMDDT one, or EVPD
+/// zero with a page code not 00h".
+fn check_fields(asked: &Asked) -> Result<(), u8> {
+    if asked.naca || asked.cmddt || (!asked.evpd && asked.page_code != 0x00) {
+        return Err(refusal::FIELD);
+    }
+    Ok(())
+}
+
+/// 5: "EVPD one and the page is not 00h, 80h, 83h, 89h".
+fn check_page(asked: &Asked) -> Result<(), u8> {
+    if asked.evpd && ![0x00, 0x80, 0x83, 0x89].contains(&asked.page_code) {
+        return Err(refusal::PAGE);
+    }
+    Ok(())
+}
+
+/// 6: "no IDENTIFY block, and standard data, 80h or 83h is asked".
+fn check_block(asked: &Asked, block: &[u8]) -> Result<(), u8> {
+    let needs_block = !asked.evpd || asked.page_code == 0x80 || asked.page_code == 0x83;
+    if block.is_empty() && needs_block {
+        return Err(refusal::NO_BLOCK);
+    }
+    Ok(())
+}
+
+/// The answer for a packet drive. "Then checks 4 to 6 do not apply. Only EVPD
+/// one, CMDDT zero with page 00h or 89h is served here; all else shows the
+/// first n bytes of the drive's reply, n the lesser of its size and the
+/// allocation length."
+fn packet_answer(
+    asked: &Asked,
+    block: &[u8],
+    signature: &[u8],
+    texts: &[u8],
+    reply: &[u8],
+) -> Result<Answer, u8> {
+    match (asked.evpd, asked.cmddt, asked.page_code) {
+        (true, false, 0x00) => match packet::page00(reply) {
+            // 7: "page 00h is asked of a packet drive and its own is unusable"
+            None => Err(refusal::UNUSABLE),
+            Some(page) => Ok(cut(page, asked)),
+        },
+        (true, false, 0x89) => {
+            let page = pages::page89(block, signature, texts, true);
+            Ok(cut(page, asked))
+        }
+        _ => Ok(Answer::Reply(reply.len().min(asked.allocation))),
+    }
+}
+
+/// "The reply is the first n bytes of the full page, n the lesser of page size
+/// and allocation length. Length fields inside keep the full value."
+fn cut(mut page: Vec<u8>, asked: &Asked) -> Answer {
+    page.truncate(asked.allocation);
+    if fault::planted("length-field-shrinks-with-the-cut") && asked.evpd && page.len() > 3 {
+        let rest = (page.len() - 4) as u16;
+        page[2..4].copy_from_slice(&rest.to_be_bytes());
+    }
+    Answer::Page(page)
+}
+
+/// 8: "output room is shorter than the bytes to write"; else "Output past n is
+/// untouched. Allocation length 0 is GOOD with nothing written."
+fn write(bytes: &[u8], room: &mut [u8], sense: &mut [u8]) -> Inquiry {
+    let whole_page_wanted = fault::planted("room-for-the-whole-page") && room.len() < 572;
+    if room.len() < bytes.len() || whole_page_wanted {
+        return refuse(refusal::ROOM, sense);
+    }
+    if fault::planted("inquiry-writes-nothing") {
+        return accept(SHOWS_ROOM, bytes.len());
+    }
+    room[..bytes.len()].copy_from_slice(bytes);
+    accept(SHOWS_ROOM, bytes.len())
+}
+
+fn accept(shown: u8, count: usize) -> Inquiry {
+    Inquiry {
+        number: refusal::ACCEPTED,
+        status: refusal::GOOD,
+        shown,
+        count,
+    }
+}
+
+/// "A refusal returns an empty part of the output room where a part is
+/// returned".
+fn refuse(number: u8, sense: &mut [u8]) -> Inquiry {
+    refusal::write_sense(number, sense);
+    Inquiry {
+        number,
+        status: refusal::status(number),
+        shown: SHOWS_ROOM,
+        count: 0,
+    }
+}

@@ -1,0 +1,384 @@
+//! Pass-through orders: "ATA PASS-THROUGH (12) (A1h, 12 bytes) and (16) (85h,
+//! 16 bytes)".
+
+use crate::{completion, fault, lent, refusal};
+use std::sync::atomic::{AtomicBool, Ordering};
+
+/// The directions of an order.
+pub const NO_DATA: u8 = 0;
+pub const FROM_DRIVE: u8 = 1;
+pub const TO_DRIVE: u8 = 2;
+
+/// "An order holds: protocol, quiet seconds 2^(OFF_LINE+1) - 2, sectors per
+/// block 2^MULTIPLE_COUNT, CK_COND, EXTEND, direction, length in bytes,
+/// registers (two bytes each of features, count and the three LBA parts;
+/// device; command)."
+#[derive(Clone, Copy, Debug, Default, PartialEq, Eq)]
+pub struct Order {
+    pub length: u32,
+    pub features: u16,
+    pub count: u16,
+    pub lba_low: u16,
+    pub lba_mid: u16,
+    pub lba_high: u16,
+    pub quiet_seconds: u16,
+    pub sectors_per_block: u16,
+    pub device: u8,
+    pub command: u8,
+    pub protocol: u8,
+    pub ck_cond: u8,
+    pub extend: u8,
+    pub direction: u8,
+}
+
+/// "**The pending record.** One order at most." State 0 is nothing pending,
+/// any other state a pending order.
+#[derive(Clone, Copy, Debug, Default, PartialEq, Eq)]
+pub struct Record {
+    pub state: u32,
+    pub order: Order,
+}
+
+impl Record {
+    pub fn is_pending(&self) -> bool {
+        self.state != 0
+    }
+}
+
+/// The answer to a pass-through command.
+#[derive(Clone, Copy, Debug, PartialEq, Eq)]
+pub struct Taken {
+    pub number: u8,
+    pub status: u8,
+    pub order: Order,
+}
+
+/// The fields of both forms of the command. "Bits not named are ignored
+/// (*house*)."
+struct Fields {
+    multiple_count: u8,
+    protocol: u8,
+    extend: bool,
+    off_line: u8,
+    ck_cond: bool,
+    t_dir: bool,
+    byte_block: bool,
+    t_length: u8,
+    features: u16,
+    count: u16,
+    lba_low: u16,
+    lba_mid: u16,
+    lba_high: u16,
+    device: u8,
+    command: u8,
+    naca: bool,
+}
+
+/// Takes a pass-through command. "An accepted order fills it [the record], a
+/// refused one does not touch it".
+pub fn submit(
+    record: &mut Record,
+    command: &[u8],
+    registers: &[u8],
+    declared: u32,
+    sense: &mut [u8],
+) -> Taken {
+    if !lent::registers_size_is_right(registers) || !lent::sense_size_is_right(sense) {
+        return refuse(refusal::SIZE, sense);
+    }
+    if fault::planted("submit-refuses-all") {
+        return refuse(refusal::FIELD, sense);
+    }
+    if fault::planted("busy-before-protocol") && record.is_pending() {
+        return refuse(refusal::PENDING, sense);
+    }
+    let fields = match read_command(command).and_then(check_command) {
+        Ok(fields) => fields,
+        Err(number) => return refuse(number, sense),
+    };
+    if fields.protocol == 15 {
+        if fault::planted("record-cleared-by-protocol-15") {
+            *record = Record::default();
+        }
+        return return_response(registers, sense);
+    }
+    // 10: "an order is pending, and PROTOCOL is not 15".
+    if record.is_pending() {
+        return refuse(refusal::PENDING, sense);
+    }
+    match make_order(&fields, declared) {
+        Ok(order) => fill(record, order),
+        Err(number) => refuse(number, sense),
+    }
+}
+
+/// "An accepted order fills it [the record]".
+fn fill(record: &mut Record, order: Order) -> Taken {
+    if fault::planted("first-order-only") && is_a_later_one() {
+        *record = Record {
+            state: 1,
+            order: Order::default(),
+        };
+        return take(Order::default());
+    }
+    if !fault::planted("submit-writes-nothing") {
+        *record = Record { state: 1, order };
+    }
+    take(order)
+}
+
+/// Whether an order was taken before, for a planted fault.
+fn is_a_later_one() -> bool {
+    static TAKEN: AtomicBool = AtomicBool::new(false);
+    TAKEN.swap(true, Ordering::Relaxed)
+}
+
+/// "an order taken has no status until completion"
+fn take(order: Order) -> Taken {
+    Taken {
+        number: refusal::ACCEPTED,
+        status: refusal::NO_STATUS,
+        order,
+    }
+}
+
+/// "A refusal returns ... zero for each order field".
+fn refuse(number: u8, sense: &mut [u8]) -> Taken {
+    refusal::write_sense(number, sense);
+    Taken {
+        number,
+        status: refusal::status(number),
+        order: Order::default(),
+    }
+}
+
+/// "Protocol 15 makes no order: it answers CHECK CONDITION with key 01, 00/1D
+/// and the lent registers, EXTEND zero, even if an error bit is one (*house*),
+/// and leaves the pending record unchanged."
+fn return_response(registers: &[u8], sense: &mut [u8]) -> Taken {
+    completion::write_descriptor_sense([0x01, 0x00, 0x1D], false, registers, sense);
+    Taken {
+        number: refusal::ACCEPTED,
+        status: refusal::CHECK_CONDITION,
+        order: Order::default(),
+    }
+}
+
+/// "empty command 2; opcode 3; short command 2"; "Command bytes beyond the
+/// command's size are ignored."
+fn read_command(command: &[u8]) -> Result<Fields, u8> {
+    if command.is_empty() {
+        return Err(refusal::SHORT);
+    }
+    let size = match command[0] {
+        0xA1 => 12,
+        0x85 => 16,
+        _ => return Err(refusal::OPCODE),
+    };
+    if command.len() < size {
+        return Err(refusal::SHORT);
+    }
+    if size == 12 {
+        Ok(read_12(command))
+    } else {
+        Ok(read_16(command))
+    }
+}
+
+/// "Byte 1: bits 7:5 MULTIPLE_COUNT, 4:1 PROTOCOL, bit 0 EXTEND (16 only).
+/// Byte 2: 7:6 OFF_LINE, 5 CK_COND, 3 T_DIR, 2 BYTE_BLOCK, 1:0 T_LENGTH."
+/// Everything else is left zero.
+fn read_first_bytes(command: &[u8]) -> Fields {
+    Fields {
+        multiple_count: command[1] >> 5,
+        protocol: (command[1] >> 1) & 0x0F,
+        extend: false,
+        off_line: command[2] >> 6,
+        ck_cond: command[2] & 0x20 != 0,
+        t_dir: command[2] & 0x08 != 0,
+        byte_block: command[2] & 0x04 != 0,
+        t_length: command[2] & 0x03,
+        features: 0,
+        count: 0,
+        lba_low: 0,
+        lba_mid: 0,
+        lba_high: 0,
+        device: 0,
+        command: 0,
+        naca: false,
+    }
+}
+
+/// "Register bytes as tables 92 and 96 of 004; control is the last byte."
+/// Table 92. "in the 12-byte form, upper register bytes are zero."
+fn read_12(command: &[u8]) -> Fields {
+    Fields {
+        features: register(0, command[3]),
+        count: register(0, command[4]),
+        lba_low: register(0, command[5]),
+        lba_mid: register(0, command[6]),
+        lba_high: register(0, command[7]),
+        device: command[8],
+        command: command[9],
+        naca: is_naca(command[11]),
+        ..read_first_bytes(command)
+    }
+}
+
+/// Table 96. "With EXTEND zero ... upper register bytes are zero."
+fn read_16(command: &[u8]) -> Fields {
+    let extend = command[1] & 0x01 != 0;
+    let upper = |at: usize| if extend { command[at] } else { 0 };
+    Fields {
+        extend,
+        features: register(upper(3), command[4]),
+        count: register(upper(5), command[6]),
+        lba_low: register(upper(7), command[8]),
+        lba_mid: register(upper(9), command[10]),
+        lba_high: register(upper(11), command[12]),
+        device: command[13],
+        command: command[14],
+        naca: is_naca(command[15]),
+        ..read_first_bytes(command)
+    }
+}
+
+/// "two bytes each of features, count and the three LBA parts"
+fn register(upper: u8, lower: u8) -> u16 {
+    u16::from_be_bytes([upper, lower])
+}
+
+/// "NACA (control byte bit 2) is one"
+fn is_naca(control: u8) -> bool {
+    control & 0x04 != 0
+}
+
+/// The checks 4 and 9: "then 4 to 16 upward, those that concern the command".
+fn check_command(fields: Fields) -> Result<Fields, u8> {
+    if fields.naca {
+        return Err(refusal::FIELD);
+    }
+    // 9: "PROTOCOL is 2, 7, 12, 13 or 14".
+    if [2, 7, 12, 13, 14].contains(&fields.protocol) {
+        return Err(refusal::PROTOCOL);
+    }
+    Ok(fields)
+}
+
+/// The order of a protocol that check 9 let through and that is not 15.
+fn make_order(fields: &Fields, declared: u32) -> Result<Order, u8> {
+    match fields.protocol {
+        0 | 1 => Ok(reset_order(fields)),
+        3 | 8 | 9 => non_data_order(fields),
+        _ => data_order(fields, declared),
+    }
+}
+
+/// "Protocols 0 and 1: besides the control byte only PROTOCOL and OFF_LINE are
+/// read; the rest of the order is zero, sectors per block 1, direction none."
+fn reset_order(fields: &Fields) -> Order {
+    Order {
+        protocol: fields.protocol,
+        quiet_seconds: quiet_seconds(fields.off_line),
+        sectors_per_block: 1,
+        direction: NO_DATA,
+        ..Order::default()
+    }
+}
+
+/// "| 3, 8, 9 | must be 0 | ignored |"
+fn non_data_order(fields: &Fields) -> Result<Order, u8> {
+    if fields.t_length != 0 {
+        return Err(refusal::T_LENGTH);
+    }
+    Ok(full_order(fields, NO_DATA, 0))
+}
+
+/// "| 4, 10 | not 0 | 1 (from drive) |", "| 5, 11 | not 0 | 0 (to drive) |",
+/// "| 6 | not 0 | either |".
+fn data_order(fields: &Fields, declared: u32) -> Result<Order, u8> {
+    if fields.t_length == 0 {
+        return Err(refusal::T_LENGTH);
+    }
+    let t_dir_fits = match fields.protocol {
+        4 | 10 => fields.t_dir,
+        5 | 11 => !fields.t_dir,
+        _ => true,
+    };
+    if !t_dir_fits {
+        return Err(refusal::T_DIR);
+    }
+    let length = length_in_bytes(fields, declared);
+    // 13: "a data protocol with length 0".
+    if length == 0 {
+        return Err(refusal::LENGTH_ZERO);
+    }
+    // 14: "length above the host's declared length".
+    if length > declared {
+        return Err(refusal::ABOVE_DECLARED);
+    }
+    let from_drive = if fault::planted("direction-from-opcode") {
+        !(0x30..=0x3F).contains(&fields.command)
+    } else {
+        fields.t_dir
+    };
+    let direction = if from_drive { FROM_DRIVE } else { TO_DRIVE };
+    Ok(full_order(fields, direction, length))
+}
+
+/// "T_LENGTH 1 takes the features number, 2 the count: 8 bits, or 16 with
+/// EXTEND." "T_LENGTH 3 takes the host's declared length, a 32-bit byte count,
+/// and ignores BYTE_BLOCK (*house*). Count 0 is length 0 (*house*)." T_LENGTH
+/// is not 0 here.
+fn length_in_bytes(fields: &Fields, declared: u32) -> u32 {
+    if fault::planted("invented-lengths") {
+        return 512;
+    }
+    match fields.t_length {
+        1 => counted(fields.features, fields.byte_block),
+        2 => counted(fields.count, fields.byte_block),
+        _ => declared,
+    }
+}
+
+/// "BYTE_BLOCK zero means it counts bytes; one, blocks of 512."
+fn counted(number: u16, byte_block: bool) -> u32 {
+    if fault::planted("count-0-is-256") && number == 0 {
+        return counted(256, byte_block);
+    }
+    if byte_block {
+        u32::from(number) * 512
+    } else {
+        u32::from(number)
+    }
+}
+
+/// "quiet seconds 2^(OFF_LINE+1) - 2"
+fn quiet_seconds(off_line: u8) -> u16 {
+    (1 << (off_line + 1)) - 2
+}
+
+/// "sectors per block 2^MULTIPLE_COUNT"
+fn sectors_per_block(multiple_count: u8) -> u16 {
+    1 << multiple_count
+}
+
+/// An order that takes every field of the command.
+fn full_order(fields: &Fields, direction: u8, length: u32) -> Order {
+    Order {
+        length,
+        features: fields.features,
+        count: fields.count,
+        lba_low: fields.lba_low,
+        lba_mid: fields.lba_mid,
+        lba_high: fields.lba_high,
+        quiet_seconds: quiet_seconds(fields.off_line),
+        sectors_per_block: sectors_per_block(fields.multiple_count),
+        device: fields.device,
+        command: fields.command,
+        protocol: fields.protocol,
+        ck_cond: u8::from(fields.ck_cond),
+        extend: u8::from(fields.extend),
+        direction,
+    }
+}

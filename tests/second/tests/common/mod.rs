@@ -1,0 +1,342 @@
+//! What the tests share: lent pieces, and runs that check every lent byte.
+
+#![allow(dead_code)]
+
+use second::{complete, inquiry, submit, Ended, Inquiry, Order, Record, Taken};
+
+/// Fills lent room before a call, so that a written byte is seen.
+pub const FILL: u8 = 0xA5;
+
+pub const BLOCK_0_NAME: [u8; 8] = [0x00, 0x50, 0x00, 0xC5, 0x34, 0x12, 0x78, 0x56];
+
+pub const PLAIN: [u8; 20] = [0; 20];
+
+/// The registers of C12.
+pub const REGISTERS: [u8; 11] = [0, 0, 0xFF, 0, 0, 0, 0, 0, 0, 0, 0x50];
+
+/// The command of C6.
+pub const C6: [u8; 12] = [0xA1, 0x08, 0x0E, 0, 1, 0, 0, 0, 0, 0xEC, 0, 0];
+
+/// The command of C12.
+pub const C12: [u8; 16] = [0x85, 0x06, 0x20, 0, 0, 0, 0, 0, 0, 0, 0, 0, 0, 0, 0xE5, 0];
+
+pub fn packet_signature() -> [u8; 20] {
+    let mut signature = [0; 20];
+    signature[5] = 0x14;
+    signature[6] = 0xEB;
+    signature
+}
+
+/// Texts whose 28 bytes all differ.
+pub fn texts() -> [u8; 28] {
+    std::array::from_fn(|at| 0x41 + at as u8)
+}
+
+pub fn zero_block() -> [u8; 512] {
+    [0; 512]
+}
+
+/// Block 0 of the roll's sample: zero but for its name.
+pub fn block_0() -> [u8; 512] {
+    let mut block = zero_block();
+    block[216..224].copy_from_slice(&BLOCK_0_NAME);
+    block
+}
+
+/// A block of nonzero bytes with no name; neighbours differ.
+pub fn text_block() -> [u8; 512] {
+    let mut block: [u8; 512] = std::array::from_fn(|at| 1 + (at % 251) as u8);
+    block[216..224].fill(0);
+    block
+}
+
+/// The pieces lent to INQUIRY. `room` and `sense` are sizes.
+#[derive(Clone)]
+pub struct Ask {
+    pub command: Vec<u8>,
+    pub block: Vec<u8>,
+    pub signature: Vec<u8>,
+    pub texts: Vec<u8>,
+    pub reply: Vec<u8>,
+    pub room: usize,
+    pub sense: usize,
+}
+
+impl Ask {
+    /// A drive with block 0, ample room, and the given command.
+    pub fn new(command: &[u8]) -> Ask {
+        Ask {
+            command: command.to_vec(),
+            block: block_0().to_vec(),
+            signature: PLAIN.to_vec(),
+            texts: texts().to_vec(),
+            reply: Vec::new(),
+            room: 600,
+            sense: 30,
+        }
+    }
+
+    pub fn block(mut self, block: &[u8]) -> Ask {
+        self.block = block.to_vec();
+        self
+    }
+
+    pub fn signature(mut self, signature: &[u8]) -> Ask {
+        self.signature = signature.to_vec();
+        self
+    }
+
+    pub fn packet(self, reply: &[u8]) -> Ask {
+        let mut ask = self.signature(&packet_signature());
+        ask.reply = reply.to_vec();
+        ask
+    }
+
+    pub fn texts(mut self, texts: &[u8]) -> Ask {
+        self.texts = texts.to_vec();
+        self
+    }
+
+    pub fn room(mut self, room: usize) -> Ask {
+        self.room = room;
+        self
+    }
+
+    pub fn sense(mut self, sense: usize) -> Ask {
+        self.sense = sense;
+        self
+    }
+
+    pub fn run(&self) -> (Inquiry, Vec<u8>, Vec<u8>) {
+        let mut room = vec![FILL; self.room];
+        let mut sense = vec![FILL; self.sense];
+        let answer = inquiry(
+            &self.command,
+            &self.block,
+            &self.signature,
+            &self.texts,
+            &self.reply,
+            &mut room,
+            &mut sense,
+        );
+        (answer, room, sense)
+    }
+
+    /// Checks a GOOD answer that shows exactly these bytes of the output room.
+    pub fn writes(&self, bytes: &[u8]) {
+        let (answer, room, sense) = self.run();
+        let wanted = Inquiry {
+            number: 0,
+            status: 0x00,
+            shown: 1,
+            count: bytes.len(),
+        };
+        assert_eq!(answer, wanted);
+        assert_eq!(&room[..bytes.len()], bytes);
+        assert!(is_filled(&room[bytes.len()..]), "room past n is touched");
+        assert!(is_filled(&sense), "sense is touched");
+    }
+
+    /// Checks a GOOD answer that shows so many bytes of the drive's reply.
+    pub fn passes(&self, count: usize) {
+        let (answer, room, sense) = self.run();
+        let wanted = Inquiry {
+            number: 0,
+            status: 0x00,
+            shown: 0,
+            count,
+        };
+        assert_eq!(answer, wanted);
+        assert!(is_filled(&room), "room is touched");
+        assert!(is_filled(&sense), "sense is touched");
+    }
+
+    /// Checks a refusal: number, status, sense, and nothing else touched.
+    pub fn refused(&self, number: u8) {
+        let (answer, room, sense) = self.run();
+        let wanted = Inquiry {
+            number,
+            status: row(number).0,
+            shown: 1,
+            count: 0,
+        };
+        assert_eq!(answer, wanted);
+        assert!(is_filled(&room), "room is touched");
+        check_refusal_sense(number, &sense);
+    }
+}
+
+/// The pieces lent to a pass-through command. `sense` is a size.
+#[derive(Clone)]
+pub struct Pass {
+    pub record: Record,
+    pub command: Vec<u8>,
+    pub registers: Vec<u8>,
+    pub declared: u32,
+    pub sense: usize,
+}
+
+impl Pass {
+    /// Nothing pending, ample declared length, and the given command.
+    pub fn new(command: &[u8]) -> Pass {
+        Pass {
+            record: Record::default(),
+            command: command.to_vec(),
+            registers: REGISTERS.to_vec(),
+            declared: u32::MAX,
+            sense: 30,
+        }
+    }
+
+    pub fn declared(mut self, declared: u32) -> Pass {
+        self.declared = declared;
+        self
+    }
+
+    pub fn pending(mut self) -> Pass {
+        self.record = some_record();
+        self
+    }
+
+    pub fn registers(mut self, registers: &[u8]) -> Pass {
+        self.registers = registers.to_vec();
+        self
+    }
+
+    pub fn sense(mut self, sense: usize) -> Pass {
+        self.sense = sense;
+        self
+    }
+
+    pub fn byte(mut self, at: usize, value: u8) -> Pass {
+        self.command[at] = value;
+        self
+    }
+
+    pub fn run(&self) -> (Taken, Record, Vec<u8>) {
+        let mut record = self.record;
+        let mut sense = vec![FILL; self.sense];
+        let taken = submit(
+            &mut record,
+            &self.command,
+            &self.registers,
+            self.declared,
+            &mut sense,
+        );
+        (taken, record, sense)
+    }
+
+    /// The order taken; checks that the record holds it and sense is untouched.
+    pub fn order(&self) -> Order {
+        let (taken, record, sense) = self.run();
+        assert_eq!((taken.number, taken.status), (0, 0xFF));
+        assert_eq!(
+            record,
+            Record {
+                state: 1,
+                order: taken.order
+            }
+        );
+        assert!(is_filled(&sense), "sense is touched");
+        taken.order
+    }
+
+    /// Checks a refusal: number, status, sense, zero order, record unchanged.
+    pub fn refused(&self, number: u8) {
+        let (taken, record, sense) = self.run();
+        let wanted = Taken {
+            number,
+            status: row(number).0,
+            order: Order::default(),
+        };
+        assert_eq!(taken, wanted);
+        assert_eq!(record, self.record);
+        check_refusal_sense(number, &sense);
+    }
+}
+
+/// Completes with sense room of the given size.
+pub fn end(record: &mut Record, registers: &[u8], size: usize) -> (Ended, Vec<u8>) {
+    let mut sense = vec![FILL; size];
+    let ended = complete(record, registers, &mut sense);
+    (ended, sense)
+}
+
+/// A pending record whose numbers no command makes.
+pub fn some_record() -> Record {
+    Record {
+        state: 0x8000_0007,
+        order: Order {
+            length: 0xDEAD_BEEF,
+            features: 0x1122,
+            count: 0x3344,
+            lba_low: 0x5566,
+            lba_mid: 0x7788,
+            lba_high: 0x99AA,
+            quiet_seconds: 999,
+            sectors_per_block: 777,
+            device: 0xBB,
+            command: 0xCC,
+            protocol: 0xDD,
+            ck_cond: 0x80,
+            extend: 0x40,
+            direction: 0xEE,
+        },
+    }
+}
+
+pub fn is_filled(bytes: &[u8]) -> bool {
+    bytes.iter().all(|&byte| byte == FILL)
+}
+
+/// The table's status, and key, ASC and ASCQ, copied row by row.
+pub fn row(number: u8) -> (u8, Option<[u8; 3]>) {
+    match number {
+        1 => (0xFF, None),
+        2 => (0x02, Some([0x05, 0x24, 0x00])),
+        3 => (0x02, Some([0x05, 0x20, 0x00])),
+        4 => (0x02, Some([0x05, 0x24, 0x00])),
+        5 => (0x02, Some([0x05, 0x24, 0x00])),
+        6 => (0x02, Some([0x02, 0x04, 0x00])),
+        7 => (0x02, Some([0x0B, 0x00, 0x00])),
+        8 => (0xFF, None),
+        9 => (0x02, Some([0x05, 0x24, 0x00])),
+        10 => (0x08, None),
+        11 => (0x02, Some([0x05, 0x24, 0x00])),
+        12 => (0x02, Some([0x05, 0x24, 0x00])),
+        13 => (0x02, Some([0x05, 0x24, 0x00])),
+        14 => (0x02, Some([0x05, 0x24, 0x00])),
+        15 => (0xFF, None),
+        16 => (0xFF, None),
+        _ => panic!("no such row"),
+    }
+}
+
+/// "A row with a key writes exactly 8 sense bytes ... Every other row writes
+/// nothing."
+pub fn check_refusal_sense(number: u8, sense: &[u8]) {
+    match row(number).1 {
+        None => assert!(is_filled(sense), "sense is touched"),
+        Some([key, asc, ascq]) => {
+            assert_eq!(&sense[..8], &[0x72, key, asc, ascq, 0, 0, 0, 0]);
+            assert!(is_filled(&sense[8..]), "sense past 8 is touched");
+        }
+    }
+}
+
+/// A small generator of repeatable numbers, for tests over many inputs.
+pub struct Numbers(pub u64);
+
+impl Numbers {
+    pub fn below(&mut self, end: usize) -> usize {
+        self.0 = self
+            .0
+            .wrapping_mul(6364136223846793005)
+            .wrapping_add(1442695040888963407);
+        (self.0 >> 33) as usize % end
+    }
+
+    pub fn byte(&mut self) -> u8 {
+        self.below(256) as u8
+    }
+}
