@@ -20,7 +20,7 @@ fn block_at(bytes: &[u8], i: usize) -> &[u8]
     ensures { λ r. ⌜ now r ≡ take 512 (drop (512 * i) (now (bytes .entry))) ⌝ }
 {
     let from = 512 * i;
-    rules::part(bytes, from, from + 512)
+    &bytes[from..from + 512]
 }
 
 // The place of the first block of the same drive as block i: i itself where none before it is.

@@ -9,17 +9,23 @@ use Rattle.roll.proofs.block_at.Tie as tie
 mul-from : tie.Need-mul-from
 mul-from c = search needs
 
-add-part : tie.Need-add-part
-add-part c = search needs
+add-result : tie.Need-add-result
+add-result c = search needs
 
-part-requires : tie.Need-part-requires
-part-requires c κs = search needs
+sub-result : tie.Need-sub-result
+sub-result c = search needs
+
+part-result-start : tie.Need-part-result-start
+part-result-start c = search needs
+
+part-result-end : tie.Need-part-result-end
+part-result-end c = search needs
 
 returns : tie.Need-returns
 returns c =
-    let i = c .before .before .args .i in
+    let i = c .before .args .i in
     let e : 512 * i + 512 - 512 * i ≡ 512 = omega arith in
-    rw e at (c .part .ensures)
+    rw e
 
 pub block-at-spec : {M : Type 1} → statement M
-block-at-spec = tie.close (tie.spec mul-from add-part part-requires returns)
+block-at-spec = tie.close (tie.spec mul-from add-result sub-result part-result-start part-result-end returns)
