@@ -1,0 +1,213 @@
+/*
+ * One record, lent to a long seeded run of submissions and completions, with refusals, PROTOCOL 15, drive errors, reset orders
+ * and host resets between. A small model, written from document 01, says after every step what must have come back and what every
+ * lent byte must be.
+ */
+#include "piongseut.h"
+
+#include <stdio.h>
+#include <stdlib.h>
+#include <string.h>
+
+enum { FILL = 0xA5, SENSE = 24 };
+
+/* The model's record: whether an order is pending, and which. */
+static int pending;
+static piongseut_order held;
+
+static uint64_t seed = 20;
+static unsigned seen[16], taken_orders, reports, completions[3], resets;
+
+/* xorshift64: the same run on every machine. */
+static unsigned roll(unsigned below)
+{
+    seed ^= seed << 13;
+    seed ^= seed >> 7;
+    seed ^= seed << 17;
+    return (unsigned)((seed >> 32) % below);
+}
+
+static void put_sense(uint8_t *sense, uint8_t key, uint8_t asc, uint8_t ascq)
+{
+    memset(sense, 0, 8);
+    sense[0] = 0x72;
+    sense[1] = key;
+    sense[2] = asc;
+    sense[3] = ascq;
+}
+
+/* The descriptor form: the 8 bytes, then the drive's registers. With EXTEND zero the four upper bytes are 00. */
+static void put_registers(uint8_t *sense, uint8_t key, uint8_t ascq, uint8_t extend, const uint8_t *registers)
+{
+    put_sense(sense, key, 0, ascq);
+    sense[7] = 0x0E;
+    sense[8] = 0x09;
+    sense[9] = 0x0C;
+    sense[10] = extend;
+    memcpy(sense + 11, registers, 11);
+    for (int upper = 12; upper <= 18 && !extend; upper += 2) sense[upper] = 0;
+}
+
+static uint16_t wide(const uint8_t *command, int at, int extend)
+{
+    return (uint16_t)((extend ? command[at] << 8 : 0) | command[at + 1]);
+}
+
+/* The order of a 16-byte command, as document 01 reads its bytes. */
+static piongseut_order order_of(const uint8_t *command, uint32_t declared)
+{
+    piongseut_order order;
+    memset(&order, 0, sizeof order);
+    order.protocol = command[1] >> 1 & 15;
+    order.quiet_seconds = (uint16_t)((2 << (command[2] >> 6)) - 2);
+    order.sectors_per_block = 1;
+    if (order.protocol < 2) return order;
+    const uint8_t extend = command[1] & 1, field = command[2] & 3;
+    order.extend = extend;
+    order.sectors_per_block = (uint16_t)(1 << (command[1] >> 5));
+    order.ck_cond = command[2] >> 5 & 1;
+    order.features = wide(command, 3, extend);
+    order.count = wide(command, 5, extend);
+    order.lba_low = wide(command, 7, extend);
+    order.lba_mid = wide(command, 9, extend);
+    order.lba_high = wide(command, 11, extend);
+    order.device = command[13];
+    order.command = command[14];
+    if (field == 3) order.length = declared;
+    else if (field != 0) order.length = (field == 1 ? order.features : order.count) * (command[2] & 4 ? 512u : 1u);
+    if (field != 0) order.direction = command[2] & 8 ? 1 : 2;
+    return order;
+}
+
+/* The refusal's number of a 16-byte command. */
+static uint8_t refusal(const uint8_t *command, uint32_t declared)
+{
+    const unsigned protocol = command[1] >> 1 & 15, field = command[2] & 3, from_drive = command[2] >> 3 & 1;
+    if (command[15] & 4) return 4;
+    if (protocol == 2 || protocol == 7 || (12 <= protocol && protocol <= 14)) return 9;
+    if (protocol == 15) return 0;
+    if (pending) return 10;
+    if (protocol < 2) return 0;
+    const int data = !(protocol == 3 || protocol == 8 || protocol == 9);
+    if (data != (field != 0)) return 11;
+    if (!data) return 0;
+    if ((protocol == 4 || protocol == 10) && !from_drive) return 12;
+    if ((protocol == 5 || protocol == 11) && from_drive) return 12;
+    const piongseut_order order = order_of(command, declared);
+    if (order.length == 0) return 13;
+    return order.length > declared ? 14 : 0;
+}
+
+static int same_record(const piongseut_pending *record)
+{
+    return (record->state != 0) == pending && (!pending || memcmp(&record->order, &held, sizeof held) == 0);
+}
+
+/* A command with each field drawn, most often one that can be taken. */
+static void draw(uint8_t *command)
+{
+    static const uint8_t protocols[8] = {3, 4, 5, 6, 8, 10, 11, 1};
+    for (int at = 0; at < 16; at++) command[at] = (uint8_t)(roll(3) ? roll(256) : 0);
+    command[0] = 0x85;
+    command[15] = roll(20) ? 0 : 4;
+    const unsigned protocol = roll(4) ? protocols[roll(8)] : roll(16);
+    command[1] = (uint8_t)((command[1] & 0xE1) | protocol << 1);
+    if (roll(8) == 0) return;
+    command[2] &= 0xF4;
+    if (protocol != 3 && protocol != 8 && protocol != 9) command[2] |= (uint8_t)(1 + roll(3));
+    if (protocol == 4 || protocol == 10) command[2] |= 8;
+    if (protocol == 5 || protocol == 11) command[2] &= 0xF7;
+}
+
+static int submission(piongseut_pending *record, const uint8_t *registers)
+{
+    uint8_t command[16], sense[SENSE], wanted[SENSE];
+    const uint32_t declared = roll(4) ? 0x02000000 : roll(1024);
+    draw(command);
+    memset(sense, FILL, SENSE);
+    memset(wanted, FILL, SENSE);
+    const piongseut_pending before = *record;
+    const uint8_t number = refusal(command, declared);
+    const piongseut_taken got = piongseut_submit(record, command, 16, registers, 11, declared, sense, SENSE);
+    piongseut_order order;
+    memset(&order, 0, sizeof order);
+    uint8_t status = number == 10 ? PIONGSEUT_BUSY : PIONGSEUT_CHECK_CONDITION;
+    seen[number]++;
+    if (number != 0 && number != 10) put_sense(wanted, 0x05, 0x24, 0x00);
+    if (number == 0 && (command[1] >> 1 & 15) == 15) {
+        put_registers(wanted, 0x01, 0x1D, 0, registers);
+        reports++;
+    } else if (number == 0) {
+        status = PIONGSEUT_NONE;
+        order = held = order_of(command, declared);
+        pending = 1;
+        taken_orders++;
+    }
+    if (status != PIONGSEUT_NONE && memcmp(record, &before, sizeof before) != 0) return 0;
+    return got.number == number && got.status == status && memcmp(&got.order, &order, sizeof order) == 0 &&
+           memcmp(sense, wanted, SENSE) == 0 && same_record(record);
+}
+
+static int completion(piongseut_pending *record, const uint8_t *registers)
+{
+    uint8_t sense[SENSE], wanted[SENSE], status = PIONGSEUT_GOOD;
+    memset(sense, FILL, SENSE);
+    memset(wanted, FILL, SENSE);
+    const piongseut_ended got = piongseut_complete(record, registers, 11, sense, SENSE);
+    const uint8_t number = pending ? 0 : 15;
+    if (!pending) {
+        status = PIONGSEUT_NONE;
+        seen[15]++;
+    } else if (registers[10] & 0x21) {
+        status = PIONGSEUT_CHECK_CONDITION;
+        put_registers(wanted, 0x0B, 0x00, held.extend, registers);
+        completions[0]++;
+    } else if (held.ck_cond) {
+        status = PIONGSEUT_CHECK_CONDITION;
+        put_registers(wanted, 0x01, 0x1D, held.extend, registers);
+        completions[1]++;
+    } else {
+        completions[2]++;
+    }
+    pending = 0;
+    return got.number == number && got.status == status && memcmp(sense, wanted, SENSE) == 0 && same_record(record);
+}
+
+/* Nothing that a run is there to show may be missing from it. */
+static int shown_all(void)
+{
+    static const int numbers[8] = {4, 9, 10, 11, 12, 13, 14, 15};
+    for (int at = 0; at < 8; at++)
+        if (seen[numbers[at]] == 0) return 0;
+    return taken_orders && reports && resets && completions[0] && completions[1] && completions[2];
+}
+
+int main(int count, char **words)
+{
+    const long steps = count > 1 ? atol(words[1]) : 200000;
+    piongseut_pending record = piongseut_empty();
+    for (long step = 0; step < steps; step++) {
+        uint8_t registers[11];
+        for (int at = 0; at < 11; at++) registers[at] = (uint8_t)roll(256);
+        if (roll(3)) registers[10] &= 0xDE;
+        int agreed = 1;
+        if (roll(50) == 0) { /* the host resets the board */
+            record = piongseut_empty();
+            pending = 0;
+            resets++;
+        } else {
+            agreed = roll(5) < 3 ? submission(&record, registers) : completion(&record, registers);
+        }
+        if (!agreed) {
+            printf("not ok step %ld of the run differs from the model\n", step);
+            return 1;
+        }
+    }
+    if (!shown_all()) {
+        printf("not ok the run leaves out something that it is there to show\n");
+        return 1;
+    }
+    printf("ok %ld steps through one lent record: %u orders, %u reports, %u busy, %u errors, %u resets\n", steps, taken_orders,
+           reports, seen[10], completions[0], resets);
+    return 0;
+}
