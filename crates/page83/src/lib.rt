@@ -12,6 +12,30 @@ ghost use Rattle.identify.specs.Block.{serial, model, name};
 ghost use Rattle.identify.specs.Text.{turned, spaced};
 ghost use Rattle.page83.specs.Page83.{page83, namePage, textPage, outcome, write as Page83·write};
 
+// What a page that names the drive starts with: PAGE CODE, PAGE LENGTH, and the head of its one descriptor (CODE SET binary,
+// DESIGNATOR TYPE NAA, DESIGNATOR LENGTH).
+const NAME_HEAD: [u8; 8] = [0x00, 0x83, 0x00, 0x0C, 0x01, 0x03, 0x00, 0x08];
+
+// What a page that tells texts starts with: the same (CODE SET ASCII, DESIGNATOR TYPE T10 vendor identification), and the vendor.
+const TEXT_HEAD: [u8; 16] = [
+    0x00,
+    0x83,
+    0x00,
+    0x48,
+    0x02,
+    0x01,
+    0x00,
+    0x44,
+    b'A',
+    b'T',
+    b'A',
+    b' ',
+    b' ',
+    b' ',
+    b' ',
+    b' ',
+];
+
 // What comes back of the writer: the refusal's number or 0, and how many bytes were written.
 #[repr(C)]
 pub struct Written {
@@ -31,17 +55,7 @@ pub struct Name {
 fn put_name(room: &mut [u8], block: &[u8])
     ensures { λ _. ⌜ Wrote (now (room .entry)) 0 (namePage (turned (name (now (block .entry))))) (now (room .exit)) ⌝ }
 {
-    let head = [
-        0x00u8,
-        0x83u8,
-        0x00u8,
-        0x0Cu8,
-        0x01u8,
-        0x03u8,
-        0x00u8,
-        0x08u8,
-    ];
-    room::put(room, 0, &head);
+    room::put(room, 0, &NAME_HEAD);
     identify::put_turned(room, 8, identify::name(block));
 }
 
@@ -49,25 +63,7 @@ fn put_name(room: &mut [u8], block: &[u8])
 fn put_texts(room: &mut [u8], block: &[u8])
     ensures { λ _. ⌜ Wrote (now (room .entry)) 0 (textPage (spaced (turned (model (now (block .entry))))) (spaced (turned (serial (now (block .entry)))))) (now (room .exit)) ⌝ }
 {
-    let head = [
-        0x00u8,
-        0x83u8,
-        0x00u8,
-        0x48u8,
-        0x02u8,
-        0x01u8,
-        0x00u8,
-        0x44u8,
-        b'A',
-        b'T',
-        b'A',
-        b' ',
-        b' ',
-        b' ',
-        b' ',
-        b' ',
-    ];
-    room::put(room, 0, &head);
+    room::put(room, 0, &TEXT_HEAD);
     let model = identify::model(block);
     identify::put_spaced(room, 16, model);
     identify::put_spaced(room, 16 + model.len(), identify::serial(block));

@@ -1,5 +1,7 @@
 // The reader of page 83h. The rule stands in specs/Reader.
+use crate::NAME_HEAD;
 use crate::Name;
+use crate::TEXT_HEAD;
 ghost use mathlib.Core.Path.{_≡_};
 ghost use mathlib.Core.Bool.{Bool};
 ghost use mathlib.Core.List.{List};
@@ -27,17 +29,7 @@ fn names_drive(page: &[u8]) -> bool
     if page.len() != 16 {
         return false;
     }
-    let head = [
-        0x00u8,
-        0x83u8,
-        0x00u8,
-        0x0Cu8,
-        0x01u8,
-        0x03u8,
-        0x00u8,
-        0x08u8,
-    ];
-    if identify::same_bytes(&page[..8], &head) {
+    if identify::same_bytes(&page[..8], &NAME_HEAD) {
         return identify::some_bit(&page[8..]);
     }
     false
@@ -50,25 +42,7 @@ fn tells_texts(page: &[u8]) -> bool
     if page.len() != 76 {
         return false;
     }
-    let head = [
-        0x00u8,
-        0x83u8,
-        0x00u8,
-        0x48u8,
-        0x02u8,
-        0x01u8,
-        0x00u8,
-        0x44u8,
-        b'A',
-        b'T',
-        b'A',
-        b' ',
-        b' ',
-        b' ',
-        b' ',
-        b' ',
-    ];
-    if identify::same_bytes(&page[..16], &head) {
+    if identify::same_bytes(&page[..16], &TEXT_HEAD) {
         return no_zero(&page[16..]);
     }
     false
