@@ -7,7 +7,8 @@ use lib.ListN.{length, drop, replicate}
 use Rattle.identify.specs.Drive.{equal}
 use Rattle.sense.specs.Refusal.{rowOf, refusedSense, good, checkCondition, none}
 use Rattle.inquiry.specs.Inquiry.{request, inquiry, Outcome}
-use Rattle.order.specs.Order.{empty}
+use Rattle.order.specs.declared.Order.{Order}
+use Rattle.order.specs.Order.{empty, noOrder}
 use Rattle.order.specs.Submit.{submit, Outcome as Submission}
 use Rattle.order.specs.Complete.{complete, Outcome as Completion}
 
@@ -22,11 +23,13 @@ room = replicate 600 0xEE
 abbrev pub senseRoom : List ℕ
 senseRoom = replicate 24 0xEE
 
--- What an INQUIRY shows: its number, status and bytes; room past them untouched, and no sense byte but a refusal's.
+-- What an INQUIRY shows: its number, status and bytes, a part of the room; room past them untouched, and no sense byte but a
+-- refusal's.
 abbrev pub shows : ℕ → ℕ → List ℕ → Outcome → Bool
 shows number status bytes o =
     eqb (o .answer .number) number
     && eqb (o .answer .status) status
+    && eqb (o .answer .shown) 1
     && eqb (o .answer .count) (length bytes)
     && equal (o .room) (bytes ++ drop (length bytes) room)
     && equal (o .sense) (refusedSense number senseRoom)
@@ -41,6 +44,12 @@ registers = 0x00 ∷ 0x00 ∷ 0xFF ∷ 0x00 ∷ 0x00 ∷ 0x00 ∷ 0x00 ∷ 0x00 
 abbrev pub send : List ℕ → ℕ → Submission
 send command declared = submit empty command registers declared senseRoom
 
+-- Every field of an order.
+abbrev pub fields : Order → List ℕ
+fields o =
+    o .length ∷ o .features ∷ o .count ∷ o .«lba_low» ∷ o .«lba_mid» ∷ o .«lba_high» ∷ o .«quiet_seconds» ∷ o .«sectors_per_block»
+    ∷ o .device ∷ o .command ∷ o .protocol ∷ o .«ck_cond» ∷ o .extend ∷ o .direction ∷ []
+
 -- An order taken: direction and length, no status yet, the record filled with it, no sense byte.
 abbrev pub takes : ℕ → ℕ → Submission → Bool
 takes direction bytes o =
@@ -49,8 +58,7 @@ takes direction bytes o =
     && eqb (o .submitted .taken .order .direction) direction
     && eqb (o .submitted .taken .order .length) bytes
     && eqb (o .submitted .next .state) 1
-    && eqb (o .submitted .next .order .direction) direction
-    && eqb (o .submitted .next .order .length) bytes
+    && equal (fields (o .submitted .next .order)) (fields (o .submitted .taken .order))
     && equal (o .sense) senseRoom
 
 -- A command refused: its number and status, a zero order, the record as it was, the refusal's sense bytes.
@@ -58,8 +66,9 @@ abbrev pub refuses : ℕ → Submission → Bool
 refuses number o =
     eqb (o .submitted .taken .number) number
     && eqb (o .submitted .taken .status) (rowOf number .status)
-    && eqb (o .submitted .taken .order .length) 0
+    && equal (fields (o .submitted .taken .order)) (fields noOrder)
     && eqb (o .submitted .next .state) 0
+    && equal (fields (o .submitted .next .order)) (fields noOrder)
     && equal (o .sense) (refusedSense number senseRoom)
 
 -- An order ended: its status and sense bytes, and the record empty.
@@ -68,6 +77,7 @@ ends status bytes o =
     eqb (o .completed .ended .number) 0
     && eqb (o .completed .ended .status) status
     && eqb (o .completed .next .state) 0
+    && equal (fields (o .completed .next .order)) (fields noOrder)
     && equal (o .sense) (bytes ++ drop (length bytes) senseRoom)
 
 -- C6's command with other bytes 1, 2 and 4.
