@@ -22,40 +22,40 @@ fn signature(mid: u8, high: u8) -> [u8; 20] {
     frame
 }
 
-fn say(text: &[u8]) {
-    io::write_all(STDOUT_FILENO, text);
+// Writes to standard output; false where that fails, here and below.
+fn say(text: &[u8]) -> bool {
+    io::write_all(STDOUT_FILENO, text)
 }
 
-fn say_number(number: u64) {
-    say(b" ");
-    io::print_decimal(STDOUT_FILENO, number);
+fn say_number(number: u64) -> bool {
+    say(b" ") && io::print_decimal(STDOUT_FILENO, number)
 }
 
-fn say_byte(byte: u8) {
-    io::print_hex(STDOUT_FILENO, byte as u64, 2);
+fn say_byte(byte: u8) -> bool {
+    io::print_hex(STDOUT_FILENO, byte as u64, 2)
 }
 
-fn say_bytes(bytes: &[u8]) {
+fn say_bytes(bytes: &[u8]) -> bool {
     let mut i = 0;
     while i < bytes.len() {
-        say_byte(bytes[i]);
+        if !say_byte(bytes[i]) {
+            return false;
+        }
         i += 1;
     }
+    true
 }
 
 // What a command asks for: standard data, or the page of its byte 2.
-fn say_page(command: &[u8]) {
-    say(b" ");
+fn say_page(command: &[u8]) -> bool {
     if !rules::bit(rules::byte(command, 1), 0) {
-        say(b"standard");
-        return;
+        return say(b" standard");
     }
-    say_byte(rules::byte(command, 2));
-    say(b"h");
+    say(b" ") && say_byte(rules::byte(command, 2)) && say(b"h")
 }
 
 // Asks the board, and prints the line from the page's name on.
-fn ask(command: &[u8], block: &[u8], signature: &[u8], reply: &[u8]) {
+fn ask(command: &[u8], block: &[u8], signature: &[u8], reply: &[u8]) -> bool {
     let mut room = [0u8; 572];
     let mut sense = [0u8; 22];
     let answer = inquiry::inquiry(
@@ -67,60 +67,62 @@ fn ask(command: &[u8], block: &[u8], signature: &[u8], reply: &[u8]) {
         &mut room,
         &mut sense,
     );
-    say_page(command);
-    say_number(answer.number as u64);
-    say(b" ");
-    say_byte(answer.status);
-    say_number(answer.count as u64);
-    say(b" ");
-    say_bytes(inquiry::served(reply, &room, answer.shown, answer.count));
-    say(b"\n");
+    let shown = inquiry::served(reply, &room, answer.shown, answer.count);
+    say_page(command)
+        && say_number(answer.number as u64)
+        && say(b" ")
+        && say_byte(answer.status)
+        && say_number(answer.count as u64)
+        && say(b" ")
+        && say_bytes(shown)
+        && say(b"\n")
 }
 
 // Asks for a page of the disk whose block stands at place i.
-fn ask_disk(i: usize, block: &[u8], command: &[u8]) {
-    io::print_decimal(STDOUT_FILENO, i as u64);
-    ask(command, block, &signature(0x00, 0x00), b"");
+fn ask_disk(i: usize, block: &[u8], command: &[u8]) -> bool {
+    io::print_decimal(STDOUT_FILENO, i as u64) && ask(command, block, &signature(0x00, 0x00), b"")
 }
 
 // Asks for every page, with an allocation length of 572 that cuts none, and last for page 83h cut to five bytes.
-fn disk(blocks: &[u8], i: usize)
+fn disk(blocks: &[u8], i: usize) -> bool
     requires { ⌜ 512 * i + 512 ≤ length (now blocks) ⌝ }
 {
     let block = rules::part(blocks, 512 * i, 512 * i + 512);
-    ask_disk(i, block, &[0x12, 0x00, 0x00, 0x02, 0x3C, 0x00]);
-    ask_disk(i, block, &[0x12, 0x01, 0x00, 0x02, 0x3C, 0x00]);
-    ask_disk(i, block, &[0x12, 0x01, 0x80, 0x02, 0x3C, 0x00]);
-    ask_disk(i, block, &[0x12, 0x01, 0x83, 0x02, 0x3C, 0x00]);
-    ask_disk(i, block, &[0x12, 0x01, 0x89, 0x02, 0x3C, 0x00]);
-    ask_disk(i, block, &[0x12, 0x01, 0x83, 0x00, 0x05, 0x00]);
+    ask_disk(i, block, &[0x12, 0x00, 0x00, 0x02, 0x3C, 0x00])
+        && ask_disk(i, block, &[0x12, 0x01, 0x00, 0x02, 0x3C, 0x00])
+        && ask_disk(i, block, &[0x12, 0x01, 0x80, 0x02, 0x3C, 0x00])
+        && ask_disk(i, block, &[0x12, 0x01, 0x83, 0x02, 0x3C, 0x00])
+        && ask_disk(i, block, &[0x12, 0x01, 0x89, 0x02, 0x3C, 0x00])
+        && ask_disk(i, block, &[0x12, 0x01, 0x83, 0x00, 0x05, 0x00])
 }
 
-fn disks(blocks: &[u8]) {
+fn disks(blocks: &[u8]) -> bool {
     let count = blocks.len() / 512;
     let mut i = 0;
     while i < count {
-        disk(blocks, i);
+        if !disk(blocks, i) {
+            return false;
+        }
         i += 1;
     }
+    true
 }
 
 // Asks for a page of a packet drive that gave no block, where its own reply is this.
-fn ask_packet(command: &[u8], reply: &[u8]) {
-    say(b"packet");
-    ask(command, b"", &signature(0x14, 0xEB), reply);
+fn ask_packet(command: &[u8], reply: &[u8]) -> bool {
+    say(b"packet") && ask(command, b"", &signature(0x14, 0xEB), reply)
 }
 
 // The board adds 89h to the drive's page 00h, and shows its standard data as they are.
-fn packet() {
+fn packet() -> bool {
     ask_packet(
         &[0x12, 0x01, 0x00, 0x02, 0x3C, 0x00],
         &[0x05, 0x00, 0x00, 0x03, 0x00, 0x80, 0x83],
-    );
-    ask_packet(
-        &[0x12, 0x00, 0x00, 0x02, 0x3C, 0x00],
-        b"\x05\x80\x05\x02\x1F\x00\x00\x00PIONG   PACKET DRIVE    1.0 ",
-    );
+    )
+        && ask_packet(
+            &[0x12, 0x00, 0x00, 0x02, 0x3C, 0x00],
+            b"\x05\x80\x05\x02\x1F\x00\x00\x00PIONG   PACKET DRIVE    1.0 ",
+        )
 }
 
 fn main() {
@@ -145,6 +147,10 @@ fn main() {
         );
         return;
     }
-    disks(&buffer[..n]);
-    packet();
+    if !(disks(&buffer[..n]) && packet()) {
+        io::write_all(
+            STDERR_FILENO,
+            b"inquiries: standard output could not be written\n",
+        );
+    }
 }

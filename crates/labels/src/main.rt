@@ -2,94 +2,68 @@
 // board shows them, its world wide name, and the place of the first block of the same drive.
 use libc::STDERR_FILENO;
 use libc::STDOUT_FILENO;
-ghost use Prim.Native.Nat.{_+_, _*_, _≤_, _<_};
-ghost use mathlib.Core.Path.{_≡_};
-ghost use lib.ListN.{length};
 
-fn say(text: &[u8]) {
-    io::write_all(STDOUT_FILENO, text);
-}
-
-// Block i of a run of blocks.
-fn block_at(blocks: &[u8], i: usize) -> &[u8]
-    requires { ⌜ 512 * i + 512 ≤ length (now blocks) ⌝ }
-    ensures { λ r. ⌜ length (now r) ≡ 512 ⌝ }
-{
-    &blocks[512 * i..512 * i + 512]
+// Writes to standard output; false where that fails, here and below.
+fn say(text: &[u8]) -> bool {
+    io::write_all(STDOUT_FILENO, text)
 }
 
 // The model, turned and spaced, in brackets.
-fn say_model(block: &[u8]) {
+fn say_model(block: &[u8]) -> bool {
     let mut shown = [0u8; 40];
     identify::put_spaced(&mut shown, 0, identify::model(block));
-    say(b" [");
-    say(&shown);
-    say(b"]");
+    say(b" [") && say(&shown) && say(b"]")
 }
 
 // The serial number, turned and spaced, in brackets.
-fn say_serial(block: &[u8]) {
+fn say_serial(block: &[u8]) -> bool {
     let mut shown = [0u8; 20];
     identify::put_spaced(&mut shown, 0, identify::serial(block));
-    say(b" [");
-    say(&shown);
-    say(b"]");
+    say(b" [") && say(&shown) && say(b"]")
 }
 
-fn say_byte(byte: u8) {
-    io::print_hex(STDOUT_FILENO, byte as u64, 2);
+// Word w, high byte first, in hexadecimal digits.
+fn say_word(block: &[u8], w: u8) -> bool {
+    io::print_hex(STDOUT_FILENO, identify::word(block, w) as u64, 4)
 }
 
-// The world wide name, high byte first, in hexadecimal digits.
-fn say_name(block: &[u8]) {
+// The world wide name, words 108 to 111.
+fn say_name(block: &[u8]) -> bool {
     if !identify::carries_name(block) {
-        say(b" no name");
-        return;
+        return say(b" no name");
     }
-    say(b" name ");
-    let mut shown = [0u8; 8];
-    identify::put_turned(&mut shown, 0, identify::name(block));
-    let mut i = 0;
-    while i < 8 {
-        say_byte(shown[i]);
-        i += 1;
-    }
+    say(b" name ")
+        && say_word(block, 108)
+        && say_word(block, 109)
+        && say_word(block, 110)
+        && say_word(block, 111)
 }
 
-// The first block of the same drive as block i: i itself where no earlier one is.
-fn first_of(blocks: &[u8], i: usize) -> usize
-    requires { ⌜ 512 * i + 512 ≤ length (now blocks) ⌝ }
-{
-    let mut j = 0;
-    while j < i {
-        if identify::same_drive(block_at(blocks, j), block_at(blocks, i)) {
-            return j;
-        }
-        j += 1;
-    }
-    i
+fn say_place(i: usize) -> bool {
+    io::print_decimal(STDOUT_FILENO, i as u64)
 }
 
-fn label(blocks: &[u8], i: usize)
-    requires { ⌜ 512 * i + 512 ≤ length (now blocks) ⌝ }
-{
-    let block = block_at(blocks, i);
-    io::print_decimal(STDOUT_FILENO, i as u64);
-    say_model(block);
-    say_serial(block);
-    say_name(block);
-    say(b" drive ");
-    io::print_decimal(STDOUT_FILENO, first_of(blocks, i) as u64);
-    say(b"\n");
+fn label(i: usize, block: &[u8], first: usize) -> bool {
+    say_place(i)
+        && say_model(block)
+        && say_serial(block)
+        && say_name(block)
+        && say(b" drive ")
+        && say_place(first)
+        && say(b"\n")
 }
 
-fn labels(blocks: &[u8]) {
+// A line for each block; none behind one that could not be written.
+fn labels(blocks: &[u8]) -> bool {
     let count = blocks.len() / 512;
     let mut i = 0;
     while i < count {
-        label(blocks, i);
+        if !label(i, roll::block_at(blocks, i), roll::first_of(blocks, i)) {
+            return false;
+        }
         i += 1;
     }
+    true
 }
 
 fn main() {
@@ -111,5 +85,10 @@ fn main() {
         );
         return;
     }
-    labels(&buffer[..n]);
+    if !labels(&buffer[..n]) {
+        io::write_all(
+            STDERR_FILENO,
+            b"labels: standard output could not be written\n",
+        );
+    }
 }

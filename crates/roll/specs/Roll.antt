@@ -44,7 +44,7 @@ rowIn (drive ∷ rest) block = cond (sameDrive drive block) 1 (suc (rowIn rest b
 abbrev pub rows : List (List ℕ) → List ℕ
 rows run = map (rowIn (drives run)) run
 
--- Block i of a run, and the first block of the same drive. For private functions; no rule names them.
+-- Block i of a run, and the first block of the same drive. For functions below the entry; no rule names them.
 abbrev pub blockAt : List ℕ → ℕ → List ℕ
 blockAt bytes i = take 512 (drop (512 * i) bytes)
 

@@ -15,7 +15,7 @@ pub struct Counted {
 }
 
 // Block i of a run.
-fn block_at(bytes: &[u8], i: usize) -> &[u8]
+pub fn block_at(bytes: &[u8], i: usize) -> &[u8]
     requires { ⌜ 512 * i + 512 ≤ length (now bytes) ⌝ }
     ensures { λ r. ⌜ now r ≡ take 512 (drop (512 * i) (now (bytes .entry))) ⌝ }
 {
@@ -24,7 +24,7 @@ fn block_at(bytes: &[u8], i: usize) -> &[u8]
 }
 
 // The place of the first block of the same drive as block i: i itself where none before it is.
-fn first_of(bytes: &[u8], i: usize) -> usize
+pub fn first_of(bytes: &[u8], i: usize) -> usize
     requires { ⌜ 512 * i + 512 ≤ length (now bytes) ⌝ }
     ensures { λ r. ⌜ Found (now (bytes .entry)) i r ⌝ }
 {

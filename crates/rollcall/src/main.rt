@@ -28,14 +28,6 @@ fn say_counts(blocks: u16, drives: u16) -> bool {
         && say(b"\n")
 }
 
-// Block i of a run of blocks.
-fn block_at(blocks: &[u8], i: usize) -> &[u8]
-    requires { ⌜ 512 * i + 512 ≤ length (now blocks) ⌝ }
-    ensures { λ r. ⌜ length (now r) ≡ 512 ⌝ }
-{
-    &blocks[512 * i..512 * i + 512]
-}
-
 // What tells the block's drive from others.
 fn say_kind(block: &[u8]) -> bool {
     if identify::carries_name(block) {
@@ -54,7 +46,7 @@ fn say_blocks(blocks: &[u8], rows: &[u16; 64], count: usize) -> bool
 {
     let mut i = 0;
     while i < count {
-        if !say_block(i, rows[i], block_at(blocks, i)) {
+        if !say_block(i, rows[i], roll::block_at(blocks, i)) {
             return false;
         }
         i += 1;
