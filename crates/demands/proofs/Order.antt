@@ -10,17 +10,19 @@ use lib.Seq.{getD-set-same, getD-set-other}
 use borrow.Author.Tests.{eqb-true, eqb-false, eq-eqb, ne-eqb, le-ltb}
 use Rattle.sense.specs.Refusal.{refusedSense}
 use Rattle.order.specs.declared.Order.{Order}
-use Rattle.order.specs.declared.Pending.{Pending}
-use Rattle.order.specs.declared.Submitted.{Submitted}
-use Rattle.order.specs.declared.Completed.{Completed}
-use Rattle.order.specs.Command.{Whole, long, protocol, tDir, tLength, byteBlock, count, ckCond, extend}
-use Rattle.order.specs.Length.{lengthOf}
-use Rattle.order.specs.Order.{reset, flag, directionOf, noOrder, empty, nothingPending, orderOf}
-use Rattle.order.specs.Submit as Submit
-use Rattle.order.specs.Submit.{submit}
-use Rattle.order.specs.Complete as Complete
-use Rattle.order.specs.Complete.{complete, endStatus, endSense, isSet}
-use Rattle.order.proofs.Laws.{either}
+use Rattle.pending.specs.declared.Pending.{Pending}
+use Rattle.pending.specs.declared.Submitted.{Submitted}
+use Rattle.pending.specs.declared.Completed.{Completed}
+use Rattle.command.specs.Command.{Whole, long, protocol, tDir, tLength, byteBlock, count, ckCond, extend}
+use Rattle.command.specs.Length.{lengthOf}
+use Rattle.order.specs.Order.{reset, flag, directionOf, noOrder, orderOf}
+use Rattle.order.specs.Check as Check
+use Rattle.pending.specs.Record.{empty, nothingPending}
+use Rattle.pending.specs.Submit as Submit
+use Rattle.pending.specs.Submit.{submit}
+use Rattle.pending.specs.Complete as Complete
+use Rattle.pending.specs.Complete.{complete, endStatus, endSense, isSet}
+use Rattle.command.proofs.Laws.{either}
 
 -- What decides the direction: a reset has none.
 direction-is : (c : List ℕ) (declared : ℕ) → orderOf c declared .direction ≡ cond (reset (protocol c)) 0 (directionOf (protocol c) (tDir c))
@@ -153,7 +155,7 @@ module _ (p : Pending) (command registers : List ℕ) (declared : ℕ) (sense : 
 
   -- While an order is pending none is taken: only protocol 15 is not refused.
   pub none-taken-while-pending : nothingPending p ≡ false → (protocol command ≡ 15 → ⊥) → numberIn submission ≡ 0 → ⊥
-  unfolding Submit.refusalOf
+  unfolding Check.refusalOf
   none-taken-while-pending n h e =
       let t : (not (nothingPending p) && not (eqb (protocol command) 15)) ≡ true = rw (n, ne-eqb _ _ h) in
       eqb-false refusal 0 (search (here, later) depth 9) (not-refused e)

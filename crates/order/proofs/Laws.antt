@@ -1,18 +1,16 @@
 -- Laws that the functions' proofs share.
 use mathlib.Core.Path.{_≡_, refl, sym, _∙_}
-use mathlib.Core.Bool.{Bool, true, false, cond, _||_, true≢false}
+use mathlib.Core.Bool.{Bool, true, false, cond}
 use mathlib.Core.List.{List}
-use Prim.Native.Nat.{ℕ, suc, _*_, _^_, _≤_, _<_}
-use native.Mathlib.Nat.{le-trans, lt-of-lt-of-le, mul-lt-mul-of-pos-left}
+use Prim.Native.Nat.{ℕ, _≤_}
+use native.Mathlib.Nat.{le-trans}
 use native.Mathlib.Omega.{arith}
 use lib.Dec.{eqb, ltb}
 use lib.ListN.{length}
 use borrow.Author.Tests.{eqb-true, ltb-false, not-false, eq-eqb, ne-eqb}
-use Rattle.order.specs.declared.Pending.{Pending}
-use Rattle.order.specs.Command.{long, size, Whole}
-use Rattle.order.specs.Complete as Complete
-use Rattle.order.specs.Submit as Submit
-use Rattle.order.specs.Submit.{wrongSize, wrongOpcode}
+use Rattle.rules.proofs.Checks.{Silent, silent, neither}
+use Rattle.command.specs.Command.{long, size, Whole}
+use Rattle.order.specs.Check.{wrongSize, checksOf, refusalOf}
 
 -- Checks in order: one that applies answers, and one that does not leaves the answer to those after it.
 pub applies : {b : Bool} (n rest : ℕ) → b ≡ true → n ≡ cond b n rest
@@ -41,42 +39,18 @@ whole {command} e h =
       sixteen = λ t. rw t at l;
     }
 
--- Where no check answers, the first does not apply, and those after it do not answer either.
-went-on : (b : Bool) (n rest : ℕ) → cond b (suc n) rest ≡ 0 → (b ≡ false) × (rest ≡ 0)
-went-on true n rest e = absurd (omega arith)
-went-on false n rest e = (refl, e)
-
-neither : (a b : Bool) → (a || b) ≡ false → a ≡ false
-neither true b e = absurd (true≢false e)
-neither false b e = refl
-
 -- Where the lent pieces have their sizes, there are 11 registers.
-sized : (registers : List ℕ) (sense : ℕ) → wrongSize registers sense ≡ false → length registers ≡ 11
-sized registers sense e = eqb-true _ _ (not-false _ (neither _ (ltb sense 22) e))
-
--- An order whose end nothing refuses came with all its registers.
-pub ended-registers : (p : Pending) (registers : List ℕ) (sense : ℕ) → Complete.refusalOf p registers sense ≡ 0 → length registers ≡ 11
-unfolding Complete.refusalOf
-ended-registers p registers sense e = sized registers sense (went-on _ 0 _ e .0)
+pub sized : (registers sense : ℕ) → wrongSize registers sense ≡ false → registers ≡ 11
+sized registers sense e = eqb-true _ _ (not-false _ (neither _ (ltb sense 22) e .0))
 
 -- A command that nothing refuses came with all its registers, and is whole.
-module _ (p : Pending) (command registers : List ℕ) (declared sense : ℕ) (e : Submit.refusalOf p command registers declared sense ≡ 0) where
-  pub taken-registers : length registers ≡ 11
-  unfolding Submit.refusalOf
-  taken-registers = sized registers sense (went-on _ 0 _ e .0)
+module _ (pending : Bool) (command : List ℕ) (registers declared sense : ℕ) (e : refusalOf pending command registers declared sense ≡ 0) where
+  quiet : Silent (checksOf pending command registers declared sense)
+  unfolding refusalOf
+  quiet = silent (checksOf pending command registers declared sense) refl e
+
+  pub taken-registers : registers ≡ 11
+  taken-registers = sized registers sense (quiet .0)
 
   pub taken-whole : Whole command
-  unfolding Submit.refusalOf
-  taken-whole =
-      let some = went-on (wrongSize registers sense) 0 _ e .1 in
-      let opcode = went-on (eqb (length command) 0) 1 _ some .1 in
-      whole refl (went-on _ 1 _ (went-on (wrongOpcode command) 2 _ opcode .1) .0)
-
--- What a function makes of one of two is one of the two that it makes.
-pub either : {A B : Type 0} (f : A → B) (b : Bool) (x y : A) → cond b (f x) (f y) ≡ f (cond b x y)
-either f true x y = refl
-either f false x y = refl
-
--- A count of w bits, times the size of what it counts, stays below what the largest such count allows.
-pub product : (w size limit : ℕ) {n : ℕ} → 0 < size → size * 2 ^ w ≤ limit → n < 2 ^ w → size * n < limit
-product w size limit s l h = lt-of-lt-of-le (mul-lt-mul-of-pos-left h s) l
+  taken-whole = whole refl (quiet .1 .1 .1 .0)

@@ -1,3 +1,2 @@
--- The laws of pass-through orders, and of functions over the lent record.
+-- The laws of pass-through orders.
 pub mod Laws
-pub mod Thin

@@ -1,6 +1,3 @@
--- Pass-through orders, as document 01 reads, holds and completes them.
-pub mod Command
-pub mod Length
+-- The order that a pass-through command makes, and the checks that refuse one, as document 01 has them.
 pub mod Order
-pub mod Submit
-pub mod Complete
+pub mod Check

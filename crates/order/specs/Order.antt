@@ -1,12 +1,11 @@
--- Orders, and the record that holds one.
+-- Orders for the drive.
 use mathlib.Core.Bool.{Bool, cond, _||_}
 use mathlib.Core.List.{List}
 use Prim.Native.Nat.{ℕ, _+_, _-_, _^_}
 use lib.Dec.{eqb}
 use Rattle.order.specs.declared.Order.{Order}
-use Rattle.order.specs.declared.Pending.{Pending}
-use Rattle.order.specs.Command.{protocol, multipleCount, offLine, ckCond, extend, tDir, register, device, ataCommand}
-use Rattle.order.specs.Length.{lengthOf}
+use Rattle.command.specs.Command.{protocol, multipleCount, offLine, ckCond, extend, tDir, register, device, ataCommand}
+use Rattle.command.specs.Length.{lengthOf}
 
 -- Protocols by number: without data, from the drive, to the drive, and either way.
 abbrev pub withoutData : ℕ → Bool
@@ -101,13 +100,3 @@ commandOrder c declared =
 
 unfoldable pub orderOf : List ℕ → ℕ → Order
 orderOf c declared = cond (reset (protocol c)) (resetOrder c) (commandOrder c declared)
-
--- "**The pending record.** One order at most." State 0 holds none; every other state is an order that waits.
-abbrev pub empty : Pending
-empty = record { state = 0; order = noOrder }
-
-abbrev pub holding : Order → Pending
-holding order = record { state = 1; order = order }
-
-abbrev pub nothingPending : Pending → Bool
-nothingPending record-given = eqb (record-given .state) 0

@@ -1,23 +1,22 @@
 // The checks of a pass-through command, in the table's order.
-use crate::Pending;
-use crate::command;
-use crate::length;
 use crate::read;
+use command::length;
 ghost use mathlib.Core.Path.{_≡_};
 ghost use mathlib.Core.Bool.{not, _&&_};
+ghost use mathlib.Core.List.{[], _∷_};
 ghost use Prim.Native.Nat.{_<_};
 ghost use lib.Dec.{eqb, ltb};
 ghost use lib.ListN.{length};
-ghost use Rattle.order.specs.Command.{Whole, size, protocol, tLength, tDir};
-ghost use Rattle.order.specs.Length.{lengthOf};
-ghost use Rattle.order.specs.Order.{withData, nothingPending};
-ghost use Rattle.order.specs.Submit.{wrongSize, wrongOpcode, wrongProtocol, wrongLength, wrongDirection, refusalOf};
+ghost use Rattle.command.specs.Command.{Whole, size, protocol, tLength, tDir};
+ghost use Rattle.command.specs.Length.{lengthOf};
+ghost use Rattle.rules.specs.Checks.{_⇒_, first};
+ghost use Rattle.order.specs.Check.{wrongSize, wrongOpcode, wrongProtocol, wrongLength, wrongDirection, noLength, tooLong, refusalOf};
 
 // 1: a lent piece has not its size.
-pub fn wrong_size(registers: &[u8], sense: usize) -> bool
-    ensures { λ r. ⌜ r ≡ wrongSize (now (registers .entry)) sense ⌝ }
+pub fn wrong_size(registers: usize, sense: usize) -> bool
+    ensures { λ r. ⌜ r ≡ wrongSize registers sense ⌝ }
 {
-    (registers.len() != 11) | (sense < 22)
+    (registers != 11) | (sense < 22)
 }
 
 // 3: the opcode is not one that is served.
@@ -49,11 +48,11 @@ fn wrong_protocol(command: &[u8]) -> bool
 }
 
 // 10: an order is pending, and the protocol is not 15.
-fn busy(pending: Pending, command: &[u8]) -> bool
+fn busy(pending: bool, command: &[u8]) -> bool
     requires { ⌜ Whole (now command) ⌝ }
-    ensures { λ r. ⌜ r ≡ not (nothingPending pending) && not (eqb (protocol (now (command .entry))) 15) ⌝ }
+    ensures { λ r. ⌜ r ≡ pending && not (eqb (protocol (now (command .entry))) 15) ⌝ }
 {
-    (pending.state != 0) & (command::protocol(command) != 15)
+    pending & (command::protocol(command) != 15)
 }
 
 // 11: T_LENGTH does not fit the protocol.
@@ -76,27 +75,27 @@ fn wrong_direction(command: &[u8]) -> bool
     (read::from_drive(protocol) & !from) | (read::to_drive(protocol) & from)
 }
 
-// 13: a data protocol with length 0.
-fn no_length(command: &[u8], declared: u32) -> bool
+// 13 and 14: a data protocol with length 0, or with one above the declared length.
+fn length_fault(command: &[u8], declared: u32) -> u8
     requires { ⌜ Whole (now command) ⌝ }
-    ensures { λ r. ⌜ r ≡ withData (protocol (now (command .entry))) && eqb (lengthOf (now (command .entry)) declared) 0 ⌝ }
+    ensures { λ r. ⌜ r ≡ first ((noLength (protocol (now (command .entry))) (lengthOf (now (command .entry)) declared) ⇒ 13) ∷ (tooLong (protocol (now (command .entry))) (lengthOf (now (command .entry)) declared) declared ⇒ 14) ∷ []) ⌝ }
 {
+    if !read::with_data(command::protocol(command)) {
+        return 0;
+    }
     let length = length::in_bytes(command, declared);
-    read::with_data(command::protocol(command)) & (length.0 == 0)
-}
-
-// 14: a data protocol with a length above the declared one.
-fn too_long(command: &[u8], declared: u32) -> bool
-    requires { ⌜ Whole (now command) ⌝ }
-    ensures { λ r. ⌜ r ≡ withData (protocol (now (command .entry))) && ltb declared (lengthOf (now (command .entry)) declared) ⌝ }
-{
-    let length = length::in_bytes(command, declared);
-    read::with_data(command::protocol(command)) & (declared < length.0)
+    if length.0 == 0 {
+        return 13;
+    }
+    if declared < length.0 {
+        return 14;
+    }
+    0
 }
 
 // The number of the first check that applies, and 0 where none does.
-pub fn fault(pending: Pending, command: &[u8], registers: &[u8], declared: u32, sense: usize) -> u8
-    ensures { λ r. ⌜ r ≡ refusalOf pending (now (command .entry)) (now (registers .entry)) declared sense ⌝ }
+pub fn fault(pending: bool, command: &[u8], registers: usize, declared: u32, sense: usize) -> u8
+    ensures { λ r. ⌜ r ≡ refusalOf pending (now (command .entry)) registers declared sense ⌝ }
 {
     if wrong_size(registers, sense) {
         return 1;
@@ -125,11 +124,5 @@ pub fn fault(pending: Pending, command: &[u8], registers: &[u8], declared: u32, 
     if wrong_direction(command) {
         return 12;
     }
-    if no_length(command, declared) {
-        return 13;
-    }
-    if too_long(command, declared) {
-        return 14;
-    }
-    0
+    length_fault(command, declared)
 }

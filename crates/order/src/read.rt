@@ -1,10 +1,9 @@
 // Reading a command into an order.
 use crate::Order;
-use crate::command;
-use crate::length;
+use command::length;
 ghost use mathlib.Core.Path.{_≡_};
 ghost use Prim.Native.Nat.{_<_, _^_};
-ghost use Rattle.order.specs.Command.{Whole};
+ghost use Rattle.command.specs.Command.{Whole};
 ghost use Rattle.order.specs.Order.{withoutData, fromDrive, toDrive, withData, reset as Order·reset, flag as Order·flag, directionOf, quietSeconds, resetOrder, commandOrder, orderOf};
 
 // Protocols by number: without data, from the drive, to the drive, and all that have data.

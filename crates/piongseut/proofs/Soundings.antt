@@ -7,10 +7,11 @@ use Rattle.sense.specs.Sense.{senseData}
 use Rattle.sense.specs.Refusal.{rowOf, refusedSense}
 use Rattle.page83.specs.Page83.{page83}
 use Rattle.inquiry.specs.Inquiry.{page, inquiry, refusalOf as inquiryRefusal}
-use Rattle.order.specs.Length.{lengthOf}
+use Rattle.command.specs.Length.{lengthOf}
 use Rattle.order.specs.Order.{orderOf}
-use Rattle.order.specs.Submit.{submit, refusalOf as submitRefusal}
-use Rattle.order.specs.Complete.{complete, refusalOf as completeRefusal}
+use Rattle.order.specs.Check.{refusalOf as submitRefusal}
+use Rattle.pending.specs.Submit.{submit}
+use Rattle.pending.specs.Complete.{complete, refusalOf as completeRefusal}
 use Rattle.piongseut.specs.Soundings.{soundings, all}
 
 pub all-hold : all soundings ≡ true

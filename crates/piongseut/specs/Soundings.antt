@@ -8,9 +8,10 @@ use Rattle.identify.specs.Drive.{equal}
 use Rattle.sense.specs.Refusal.{rowOf, refusedSense, good, checkCondition, none}
 use Rattle.inquiry.specs.Inquiry.{request, inquiry, Outcome}
 use Rattle.order.specs.declared.Order.{Order}
-use Rattle.order.specs.Order.{empty, noOrder}
-use Rattle.order.specs.Submit.{submit, Outcome as Submission}
-use Rattle.order.specs.Complete.{complete, Outcome as Completion}
+use Rattle.order.specs.Order.{noOrder}
+use Rattle.pending.specs.Record.{empty}
+use Rattle.pending.specs.Submit.{submit, Outcome as Submission}
+use Rattle.pending.specs.Complete.{complete, Outcome as Completion}
 
 -- "block 0 above, signature all zero": zero but for bytes 216-223, `00 50 00 C5 34 12 78 56`
 abbrev pub block0 : List ℕ

@@ -1,18 +1,18 @@
 // Piongseut: the board as a C library. Every entry is a thin function over the one that is proved below it, and promises the same
 // in the same words; include/piongseut.h says it to C. Only what stands here is visible in the archive.
 use inquiry::Answer;
-use order::Ended;
-use order::Pending;
-use order::Taken;
 use page83::Name;
 use page83::Written;
+use pending::Ended;
+use pending::Pending;
+use pending::Taken;
 use roll::Counted;
 ghost use mathlib.Core.Path.{_≡_};
 ghost use mathlib.Core.List.{List};
 ghost use Rattle.inquiry.specs.Inquiry.{request, outcome as inquiryOutcome, inquiry as inquiryRule};
-ghost use Rattle.order.specs.Order.{empty};
-ghost use Rattle.order.specs.Submit.{outcome as submitOutcome, submit as submitRule};
-ghost use Rattle.order.specs.Complete.{outcome as completeOutcome, complete as completeRule};
+ghost use Rattle.pending.specs.Record.{empty};
+ghost use Rattle.pending.specs.Submit.{outcome as submitOutcome, submit as submitRule};
+ghost use Rattle.pending.specs.Complete.{outcome as completeOutcome, complete as completeRule};
 ghost use Rattle.page83.specs.Page83.{outcome as writtenOutcome, write as writeRule};
 ghost use Rattle.page83.specs.Reader.{read as readRule};
 ghost use Rattle.roll.specs.Roll.{outcome as rollOutcome, roll as rollRule};

@@ -1,5 +1,5 @@
 -- `fault`: each check answers where it is the first that applies.
-use Rattle.order.specs.Submit.{refusalOf}
+use Rattle.order.specs.Check.{refusalOf}
 use Rattle.order.proofs.Laws.{checks, whole}
 use borrow.Author.Needs.{needs}
 use Rattle.order.proofs.check.fault.Statement.{statement}
@@ -65,23 +65,12 @@ returns-9 : tie.Need-returns-9
 unfolding refusalOf
 returns-9 c = search checks depth 14
 
-no-length-requires : tie.Need-no-length-requires
-no-length-requires c κs = wrong-direction-requires (c .before .before) κs
+length-fault-requires : tie.Need-length-fault-requires
+length-fault-requires c κs = wrong-direction-requires (c .before .before) κs
 
 returns-10 : tie.Need-returns-10
 unfolding refusalOf
 returns-10 c = search checks depth 14
-
-too-long-requires : tie.Need-too-long-requires
-too-long-requires c κs = no-length-requires (c .before .before) κs
-
-returns-11 : tie.Need-returns-11
-unfolding refusalOf
-returns-11 c = search checks depth 14
-
-returns-12 : tie.Need-returns-12
-unfolding refusalOf
-returns-12 c = search checks depth 14
 
 pub fault-spec : {M : Type 1} → statement M
 fault-spec =
@@ -104,8 +93,5 @@ fault-spec =
     returns-8
     wrong-direction-requires
     returns-9
-    no-length-requires
-    returns-10
-    too-long-requires
-    returns-11
-    returns-12)
+    length-fault-requires
+    returns-10)

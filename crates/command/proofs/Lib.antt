@@ -1,0 +1,2 @@
+-- The laws of pass-through commands.
+pub mod Laws

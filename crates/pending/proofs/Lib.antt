@@ -1,0 +1,3 @@
+-- The laws of the pending record, and of functions over it as it is lent.
+mod Laws
+pub mod Thin
