@@ -1,122 +1,280 @@
 /*
- * Calls every function of the C library once or more, each call between two marks, for a tool that counts the instructions between
- * them (bench/run), and measures how deep each call goes into the stack: the stack below is painted before a call and looked at
- * after it.
+ * Makes each measured call to the board and to the same work in plain Rust (bench/plain.rs, where there is a compiler for it),
+ * and beside them a bare copy of as many bytes as the call delivers. bench/run counts and prints what comes of it.
+ *   measure count FILE   makes each call once, for a tool that counts instructions; a line a call: its name, target and stack
+ *   measure time FILE    a line a call: nanoseconds of the board, of plain Rust and of the copy
+ * FILE holds an IDENTIFY block. Where board and plain Rust differ, a line says so and the exit status is 1.
  */
 #include "piongseut.h"
+#include "stack.h"
 
 #include <stdio.h>
+#include <stdlib.h>
 #include <string.h>
+#include <time.h>
 
-enum { DEPTH = 4096, PAINT = 0xA5 };
+enum { BATCHES = 20, BATCH = 10000, ROLL_BATCH = 10 };
 
-static uint8_t block[512], blocks[64 * 512], signature[20], texts[28], reply[8] = {5, 0, 0, 3, 0, 0x80, 0x83};
-static uint8_t room[1024], sense[32], registers[11];
-static uint16_t rows[64], plain_rows[64];
-static uint8_t *base; /* the stack where a measured call starts */
+typedef struct {
+    __typeof__(piongseut_empty) *empty;
+    __typeof__(piongseut_inquiry) *inquiry;
+    __typeof__(piongseut_submit) *submit;
+    __typeof__(piongseut_complete) *complete;
+    __typeof__(piongseut_write_page83) *write;
+    __typeof__(piongseut_read_page83) *read;
+    __typeof__(piongseut_roll) *roll;
+} maker;
 
-/* The same roll in plain Rust, bench/plain.rs; absent where no compiler for it is. */
-__attribute__((weak)) int plain_roll(const uint8_t *bytes, size_t count, uint16_t *rows, size_t row_count);
+#define MAKER(by) {by##_empty, by##_inquiry, by##_submit, by##_complete, by##_write_page83, by##_read_page83, by##_roll}
+static const maker board = MAKER(piongseut);
+#ifdef PLAIN
+__typeof__(piongseut_empty) plain_empty;
+__typeof__(piongseut_inquiry) plain_inquiry;
+__typeof__(piongseut_submit) plain_submit;
+__typeof__(piongseut_complete) plain_complete;
+__typeof__(piongseut_write_page83) plain_write_page83;
+__typeof__(piongseut_read_page83) plain_read_page83;
+__typeof__(piongseut_roll) plain_roll;
+static const maker plain_maker = MAKER(plain), *const plain = &plain_maker;
+#else
+static const maker *const plain = NULL;
+#endif
 
-__attribute__((noinline)) void mark(void) { __asm__ volatile("" ::: "memory"); }
-
-__attribute__((noinline)) static void paint(void) {
-    uint8_t below[DEPTH];
-    memset(below, PAINT, sizeof below);
-    __asm__ volatile("" ::"r"(below) : "memory");
-}
-
-/* How far below `base` the paint is gone. */
-__attribute__((noinline)) static long depth(void) {
-    const uint8_t *low = base - DEPTH + 512;
-    while (low < base && *low == PAINT) low++;
-    return (long)(base - low);
-}
-
-/* A measured call: `what` names it, `call` is a statement with one call of the library in it. */
-#define MEASURE(what, call)                                                                                                    \
-    do {                                                                                                                       \
-        paint();                                                                                                               \
-        __asm__ volatile("mov %%rsp, %0" : "=r"(base));                                                                        \
-        mark();                                                                                                                \
-        call;                                                                                                                  \
-        mark();                                                                                                                \
-        printf("%s stack %ld\n", what, depth());                                                                               \
-    } while (0)
-
-static piongseut_inquiry_answer ask(const uint8_t *command, size_t reply_size) {
-    return piongseut_inquiry(command, 6, block, 512, signature, 20, texts, 28, reply, reply_size, room, sizeof room, sense, 32);
-}
-
-static void inquiries(void) {
-    static const uint8_t pages[5][6] = {{0x12, 0, 0, 2, 0x3C, 0}, {0x12, 1, 0, 2, 0x3C, 0}, {0x12, 1, 0x80, 2, 0x3C, 0}, {0x12, 1, 0x83, 2, 0x3C, 0}, {0x12, 1, 0x89, 2, 0x3C, 0}};
-    static const uint8_t bad[6] = {0x12, 1, 0xB0, 0, 0xFF, 0};
-    MEASURE("standard", ask(pages[0], 0));
-    MEASURE("00h", ask(pages[1], 0));
-    MEASURE("80h", ask(pages[2], 0));
-    MEASURE("83h-name", ask(pages[3], 0));
-    MEASURE("89h", ask(pages[4], 0));
-    memset(block + 216, 0, 8);
-    MEASURE("83h-texts", ask(pages[3], 0));
-    MEASURE("refusal", ask(bad, 0));
-    signature[5] = 0x14;
-    signature[6] = 0xEB;
-    MEASURE("00h-packet", ask(pages[1], 7));
-    MEASURE("89h-packet", ask(pages[4], 7));
-}
-
-static void orders(void) {
-    static const uint8_t identify[16] = {0x85, 0x08, 0x2E, 0, 0, 0, 1, 0, 0, 0, 0, 0, 0, 0, 0xEC, 0};
-    static const uint8_t bad[16] = {0x85, 0x04};
-    static const uint8_t report[16] = {0x85, 0x1E};
+/* All that a call leaves, in one piece of memory, so that two calls are equal if memcmp says so. */
+typedef struct {
+    uint64_t said[4];
+    piongseut_order order;
     piongseut_pending record;
-    MEASURE("empty", record = piongseut_empty());
-    MEASURE("submit", piongseut_submit(&record, identify, 16, registers, 11, 512, sense, 32));
-    MEASURE("protocol-15", piongseut_submit(&record, report, 16, registers, 11, 512, sense, 32));
-    MEASURE("complete", piongseut_complete(&record, registers, 11, sense, 32));
-    MEASURE("submit-refused", piongseut_submit(&record, bad, 16, registers, 11, 512, sense, 32));
+    uint8_t name[60];
+    uint16_t rows[64];
+    _Alignas(64) uint8_t room[1024];
+    _Alignas(64) uint8_t sense[32];
+} left;
+
+#define SAID(to, ...) memcpy((to)->said, (uint64_t[4]){__VA_ARGS__}, sizeof (to)->said)
+
+typedef struct measured measured;
+typedef void make(const measured *, const maker *, left *);
+
+struct measured {
+    const char *name;
+    unsigned target;     /* instructions, 0 where none is set */
+    size_t bytes;        /* what the call delivers: reply, sense bytes, order, record, name, rows */
+    make *make;
+    unsigned how;
+    uint8_t command[16];
+};
+
+/* How a call is made: for a drive without a name, for a packet drive, with an order pending, with one that asks for registers. */
+enum { TEXTS = 1, PACKET = 2, HELD = 4, CK_COND = 8 };
+
+static _Alignas(64) uint8_t block[512], blocks[64 * 512], page[76];
+static uint8_t signature[20], texts[28], reply[7] = {5, 0, 0, 3, 0, 0x80, 0x83}, registers[11];
+static size_t page_size; /* of the page that was written last; it is the one to be read */
+
+/* ---- The calls ---- */
+
+static void make_empty(const measured *one, const maker *by, left *to)
+{
+    (void)one;
+    STACK_CALL(to->record = by->empty());
 }
 
-static void pages(void) {
+static void make_inquiry(const measured *one, const maker *by, left *to)
+{
+    piongseut_inquiry_answer answer;
+    STACK_CALL(answer = by->inquiry(one->command, 6, block, 512, signature, 20, texts, 28, reply, sizeof reply, to->room,
+                                    sizeof to->room, to->sense, sizeof to->sense));
+    SAID(to, answer.number, answer.status, answer.shown, answer.count);
+}
+
+static void make_submit(const measured *one, const maker *by, left *to)
+{
+    piongseut_taken taken;
+    STACK_CALL(taken = by->submit(&to->record, one->command, 16, registers, 11, 512, to->sense, sizeof to->sense));
+    SAID(to, taken.number, taken.status);
+    to->order = taken.order;
+}
+
+static void make_complete(const measured *one, const maker *by, left *to)
+{
+    piongseut_ended ended;
+    (void)one;
+    STACK_CALL(ended = by->complete(&to->record, registers, 11, to->sense, sizeof to->sense));
+    SAID(to, ended.number, ended.status);
+}
+
+static void make_write(const measured *one, const maker *by, left *to)
+{
     piongseut_written written;
-    MEASURE("write-texts", written = piongseut_write_page83(block, 512, room, sizeof room));
-    MEASURE("read-texts", piongseut_read_page83(room, written.count));
-    block[217] = 0x50;
-    MEASURE("write-name", written = piongseut_write_page83(block, 512, room, sizeof room));
-    MEASURE("read-name", piongseut_read_page83(room, written.count));
+    (void)one;
+    STACK_CALL(written = by->write(block, 512, to->room, sizeof to->room));
+    SAID(to, written.number, written.count);
 }
 
-/* 64 different drives, the most that a roll compares: each block's serial starts, and each name ends, with its number. */
-static int roll(const char *what, const char *what_in_rust, uint8_t name_byte) {
-    for (int i = 0; i < 64; i++) {
+static void make_read(const measured *one, const maker *by, left *to)
+{
+    piongseut_name name;
+    (void)one;
+    STACK_CALL(name = by->read(page, page_size));
+    SAID(to, name.number, name.form);
+    memcpy(to->name, name.name, sizeof to->name);
+}
+
+static void make_roll(const measured *one, const maker *by, left *to)
+{
+    piongseut_roll_answer answer;
+    (void)one;
+    STACK_CALL(answer = by->roll(blocks, sizeof blocks, to->rows, 64));
+    SAID(to, answer.number, answer.blocks, answer.drives);
+}
+
+__attribute__((noinline)) void bare_copy(uint8_t *to, const uint8_t *from, size_t count)
+{
+    memcpy(to, from, count);
+}
+
+/* The least that delivers the same number of bytes, whoever makes them. */
+static void make_copy(const measured *one, const maker *by, left *to)
+{
+    (void)by;
+    STACK_CALL(bare_copy(to->room, blocks, one->bytes));
+}
+
+static const measured calls[] = {
+    {"inquiry, standard data", 125, 36, make_inquiry, 0, {0x12, 0, 0x00, 2, 0x3C}},
+    {"inquiry, page 00h", 95, 8, make_inquiry, 0, {0x12, 1, 0x00, 2, 0x3C}},
+    {"inquiry, page 80h", 84, 24, make_inquiry, 0, {0x12, 1, 0x80, 2, 0x3C}},
+    {"inquiry, page 83h, name", 120, 16, make_inquiry, 0, {0x12, 1, 0x83, 2, 0x3C}},
+    {"inquiry, page 83h, texts", 0, 76, make_inquiry, TEXTS, {0x12, 1, 0x83, 2, 0x3C}},
+    {"inquiry, page 89h", 250, 572, make_inquiry, 0, {0x12, 1, 0x89, 2, 0x3C}},
+    {"inquiry, refusal, sense", 100, 8, make_inquiry, 0, {0x12, 1, 0xB0, 2, 0x3C}},
+    {"packet drive, page 00h", 0, 8, make_inquiry, PACKET, {0x12, 1, 0x00, 2, 0x3C}},
+    {"packet drive, page 89h", 0, 572, make_inquiry, PACKET, {0x12, 1, 0x89, 2, 0x3C}},
+    {"packet drive, own reply", 0, 0, make_inquiry, PACKET, {0x12, 1, 0x83, 2, 0x3C}},
+    {"empty", 0, 28, make_empty, 0, {0}},
+    {"submit, IDENTIFY DEVICE", 130, 24 + 28, make_submit, 0, {0x85, 0x08, 0x2E, 0, 0, 0, 1, 0, 0, 0, 0, 0, 0, 0, 0xEC, 0}},
+    {"submit, protocol 15", 0, 22, make_submit, HELD, {0x85, 0x1E}},
+    {"submit, refusal, sense", 0, 8, make_submit, 0, {0x85, 0x04}},
+    {"complete, CK_COND", 110, 28 + 22, make_complete, HELD | CK_COND, {0}},
+    {"complete, GOOD", 0, 28, make_complete, HELD, {0}},
+    {"write page 83h, name", 0, 16, make_write, 0, {0}},
+    {"read page 83h, name", 0, 60, make_read, 0, {0}},
+    {"write page 83h, texts", 0, 76, make_write, TEXTS, {0}},
+    {"read page 83h, texts", 0, 60, make_read, 0, {0}},
+    {"roll, 64 drives, names", 0, 128, make_roll, 0, {0}},
+    {"roll, 64 drives, texts", 0, 128, make_roll, TEXTS, {0}},
+};
+
+/* ---- Before and after a call ---- */
+
+static piongseut_pending record_for(const measured *one)
+{
+    piongseut_pending record = {0};
+    record.state = one->how & HELD ? 1 : 0;
+    record.order.ck_cond = one->how & CK_COND ? 1 : 0;
+    return record;
+}
+
+/* 64 different drives are the most that a roll compares: each has its number in the serial number, and in the name if any. */
+static void prepare(const measured *one, left *to)
+{
+    static const uint8_t name[8] = {0x00, 0x50, 0x00, 0xC5, 0x34, 0x12, 0x78, 0x56}, none[8];
+    memcpy(block + 216, one->how & TEXTS ? none : name, 8);
+    memcpy(signature + 5, one->how & PACKET ? "\x14\xEB" : "\0", 2);
+    for (unsigned i = 0; i < 64; i++) {
         memcpy(blocks + 512 * i, block, 512);
-        memset(blocks + 512 * i + 216, 0, 8);
-        blocks[512 * i + 217] = name_byte;
-        blocks[512 * i + 222] = name_byte ? (uint8_t)(i + 1) : 0;
         blocks[512 * i + 21] = (uint8_t)(i + 1);
+        blocks[512 * i + 222] = one->how & TEXTS ? 0 : (uint8_t)(i + 1);
     }
-    MEASURE(what, piongseut_roll(blocks, sizeof blocks, rows, 64));
-    if (plain_roll == NULL) return 0;
-    MEASURE(what_in_rust, plain_roll(blocks, sizeof blocks, plain_rows, 64));
-    return memcmp(rows, plain_rows, sizeof rows);
+    memset(to, 0, sizeof *to);
+    to->record = record_for(one);
 }
 
-int main(int count, char **words) {
-    FILE *file = count > 1 ? fopen(words[1], "rb") : NULL;
+static void check(const measured *one, const left *by_board, const left *by_plain)
+{
+    if (memcmp(by_board, by_plain, sizeof *by_board) == 0) return;
+    fprintf(stderr, "measure: %s: what the board leaves is not what bench/plain.rs leaves\n", one->name);
+    exit(1);
+}
+
+/* ---- Counting and timing ---- */
+
+static left by_board, by_plain;
+
+/* Makes every call once, and none besides: the counting tool takes them as they come, and the copy for the last of a group. */
+static void count(const measured *one)
+{
+    prepare(one, &by_board);
+    stack_paint();
+    one->make(one, &board, &by_board);
+    printf("%s|%u|%zu\n", one->name, one->target, stack_depth());
+    prepare(one, &by_plain);
+    if (plain != NULL) {
+        one->make(one, plain, &by_plain);
+        check(one, &by_board, &by_plain);
+    }
+    make_copy(one, NULL, &by_plain);
+}
+
+static double now(void)
+{
+    struct timespec time;
+    clock_gettime(CLOCK_MONOTONIC, &time);
+    return 1e9 * (double)time.tv_sec + (double)time.tv_nsec;
+}
+
+/* Nanoseconds a call. The record is put back before each, or only the first order would be taken. */
+static double batch(const measured *one, make *make, const maker *by, left *to)
+{
+    const piongseut_pending record = record_for(one);
+    const int size = one->make == make_roll ? ROLL_BATCH : BATCH;
+    double start = now();
+    for (int i = 0; i < size; i++) {
+        to->record = record;
+        make(one, by, to);
+    }
+    return (now() - start) / size;
+}
+
+static double lesser(double a, double b)
+{
+    return a < b ? a : b;
+}
+
+/* The best of several batches, taken in turns: what disturbs the machine for a while is not in all batches of one. */
+static void take_time(const measured *one)
+{
+    double by_the_board = 1e99, in_rust = 1e99, copied = 1e99;
+    prepare(one, &by_board);
+    prepare(one, &by_plain);
+    for (int i = 0; i < BATCHES; i++) {
+        by_the_board = lesser(by_the_board, batch(one, one->make, &board, &by_board));
+        if (plain != NULL) {
+            in_rust = lesser(in_rust, batch(one, one->make, plain, &by_plain));
+            if (i == 0) check(one, &by_board, &by_plain);
+        }
+        copied = lesser(copied, batch(one, make_copy, NULL, &by_plain));
+    }
+    if (plain != NULL) printf("%.1f|%.1f|%.1f\n", by_the_board, in_rust, copied);
+    else printf("%.1f|-|%.1f\n", by_the_board, copied);
+}
+
+int main(int words, char **word)
+{
+    FILE *file = words == 3 ? fopen(word[2], "rb") : NULL;
     if (file == NULL || fread(block, 1, sizeof block, file) != sizeof block) {
-        fprintf(stderr, "measure: needs the file of an IDENTIFY block\n");
+        fprintf(stderr, "measure: wants count or time, and the file of an IDENTIFY block\n");
         return 1;
     }
     fclose(file);
     memset(texts, ' ', sizeof texts);
     registers[10] = 0x50;
-    inquiries();
-    signature[5] = signature[6] = 0;
-    orders();
-    pages();
-    if (roll("roll-64-texts", "plain-texts", 0) != 0 || roll("roll-64-names", "plain-names", 0x50) != 0) {
-        fprintf(stderr, "measure: the board's rows are not those of bench/plain.rs\n");
-        return 1;
+    for (size_t i = 0; i < sizeof calls / sizeof *calls; i++) {
+        (strcmp(word[1], "count") == 0 ? count : take_time)(&calls[i]);
+        if (calls[i].make != make_write) continue;
+        memcpy(page, by_board.room, sizeof page);
+        page_size = calls[i].bytes;
     }
     return 0;
 }

@@ -1,14 +1,367 @@
-//! The roll in plain Rust, safe and unproved: what bench/run sets beside the board's own.
+//! The board's work in plain Rust, unproved, and safe but for the C calls at the end: what bench/run sets beside the board's own.
+//! It is written from the rules and from include/piongseut.h. `Err` holds a refusal number.
 
-/// Whether the name field of a block has a bit that is one.
+const GOOD: u8 = 0x00;
+const CHECK_CONDITION: u8 = 0x02;
+const BUSY: u8 = 0x08;
+const NONE: u8 = 0xFF;
+
+type Block = [u8; 512];
+
+// ---- The shapes of the header ----
+
+#[repr(C)]
+pub struct InquiryAnswer {
+    number: u8,
+    status: u8,
+    shown: u8,
+    count: usize,
+}
+
+#[repr(C)]
+#[derive(Clone, Copy, Default)]
+pub struct Order {
+    length: u32,
+    features: u16,
+    count: u16,
+    lba_low: u16,
+    lba_mid: u16,
+    lba_high: u16,
+    quiet_seconds: u16,
+    sectors_per_block: u16,
+    device: u8,
+    command: u8,
+    protocol: u8,
+    ck_cond: u8,
+    extend: u8,
+    direction: u8,
+}
+
+#[repr(C)]
+#[derive(Clone, Copy, Default)]
+pub struct Pending {
+    state: u32,
+    order: Order,
+}
+
+#[repr(C)]
+pub struct Taken {
+    number: u8,
+    status: u8,
+    order: Order,
+}
+
+#[repr(C)]
+pub struct Ended {
+    number: u8,
+    status: u8,
+}
+
+#[repr(C)]
+pub struct Written {
+    number: u8,
+    count: usize,
+}
+
+#[repr(C)]
+pub struct Name {
+    number: u8,
+    form: u8,
+    name: [u8; 60],
+}
+
+#[repr(C)]
+pub struct RollAnswer {
+    number: u8,
+    blocks: u16,
+    drives: u16,
+}
+
+// ---- Sense ----
+
+const FIELD: [u8; 3] = [0x05, 0x24, 0x00];
+
+/// Key, ASC and ASCQ of each refusal number. Key 0: no sense bytes.
+#[rustfmt::skip]
+const TABLE: [[u8; 3]; 17] = [
+    [0; 3], [0; 3], FIELD, [0x05, 0x20, 0x00], FIELD, FIELD, [0x02, 0x04, 0x00], [0x0B, 0x00, 0x00], [0; 3],
+    FIELD, [0; 3], FIELD, FIELD, FIELD, FIELD, [0; 3], [0; 3],
+];
+
+/// Writes the sense bytes of a refusal, and gives its status.
+fn refuse(number: u8, sense: &mut [u8]) -> u8 {
+    match (number, TABLE[usize::from(number)]) {
+        (10, _) => BUSY,
+        (_, [0, ..]) => NONE,
+        (_, [key, asc, ascq]) => {
+            sense[..8].copy_from_slice(&[0x72, key, asc, ascq, 0, 0, 0, 0]);
+            CHECK_CONDITION
+        }
+    }
+}
+
+/// Writes the sense bytes that report registers, and gives the status.
+fn report([key, asc, ascq]: [u8; 3], extend: bool, registers: &[u8; 11], sense: &mut [u8]) -> u8 {
+    let mut bytes = [0x72, key, asc, ascq, 0, 0, 0, 0x0E, 0x09, 0x0C, extend.into(), 0, 0, 0, 0, 0, 0, 0, 0, 0, 0, 0];
+    bytes[11..].copy_from_slice(registers);
+    if !extend {
+        [12, 14, 16, 18].iter().for_each(|&upper| bytes[upper] = 0);
+    }
+    sense[..22].copy_from_slice(&bytes);
+    CHECK_CONDITION
+}
+
+// ---- INQUIRY ----
+
+fn kept(byte: u8) -> u8 {
+    byte
+}
+
+fn spaced(byte: u8) -> u8 {
+    if byte == 0 { b' ' } else { byte }
+}
+
+/// Copies words with their two bytes exchanged, each byte as `shown` shows it.
+fn turn(from: &[u8], to: &mut [u8], shown: fn(u8) -> u8) {
+    for (word, turned) in from.chunks_exact(2).zip(to.chunks_exact_mut(2)) {
+        turned[0] = shown(word[1]);
+        turned[1] = shown(word[0]);
+    }
+}
+
+fn standard_data(block: &Block) -> [u8; 36] {
+    let mut page = *b"\x00\x00\x05\x02\x1F\x00\x00\x00ATA                         ";
+    page[1] = block[0] & 0x80;
+    turn(&block[54..70], &mut page[16..32], kept);
+    page
+}
+
+fn page80(block: &Block) -> [u8; 24] {
+    let mut page = [0; 24];
+    page[..4].copy_from_slice(&[0x00, 0x80, 0x00, 0x14]);
+    turn(&block[20..40], &mut page[4..], spaced);
+    page
+}
+
+const NAME_HEAD: [u8; 8] = [0x00, 0x83, 0x00, 0x0C, 0x01, 0x03, 0x00, 0x08];
+const TEXTS_HEAD: [u8; 16] = *b"\x00\x83\x00\x48\x02\x01\x00\x44ATA     ";
+
 fn carries_name(block: &[u8]) -> bool {
     block[216..224].iter().any(|&byte| byte != 0)
 }
 
+/// Writes the first bytes of page 83h, as many as the allocation length lets through.
+fn page83(block: &Block, most: usize, room: &mut [u8]) -> Result<usize, u8> {
+    if carries_name(block) {
+        let mut page = [0; 16];
+        page[..8].copy_from_slice(&NAME_HEAD);
+        turn(&block[216..224], &mut page[8..], kept);
+        return show([&page], most, room);
+    }
+    let mut page = [0; 76];
+    page[..16].copy_from_slice(&TEXTS_HEAD);
+    turn(&block[54..94], &mut page[16..56], spaced);
+    turn(&block[20..40], &mut page[56..], spaced);
+    show([&page], most, room)
+}
+
+/// The first 60 bytes of page 89h; the block follows them.
+fn page89_head(drive: &Drive, packet: bool) -> [u8; 60] {
+    let mut page = [0; 60];
+    page[0] = drive.block.map_or(0, |block| if packet { block[1] & 0x1F } else { 0 });
+    page[1..4].copy_from_slice(&[0x89, 0x02, 0x38]);
+    page[8..36].copy_from_slice(drive.texts);
+    page[36..56].copy_from_slice(drive.signature);
+    page[56] = if packet { 0xA1 } else { 0xEC };
+    page
+}
+
+/// Writes the first bytes of a packet drive's page 00h: its own, with 89h put into the list.
+fn packet_page00(reply: &[u8], most: usize, room: &mut [u8]) -> Result<usize, u8> {
+    let list = reply.get(4..).and_then(|codes| codes.get(..reply[3].into())).ok_or(7)?;
+    let (low, high) = list.split_at(list.partition_point(|&code| code < 0x89));
+    let high = high.strip_prefix(&[0x89]).unwrap_or(high);
+    let count = u8::try_from(low.len() + 1 + high.len()).map_err(|_| 7)?;
+    if reply[1] != 0 || list.windows(2).any(|pair| pair[0] >= pair[1]) {
+        return Err(7);
+    }
+    show([&[reply[0], 0x00, reply[2], count], low, &[0x89], high], most, room)
+}
+
+/// Writes the first bytes of a page that stands in parts, and gives their number.
+fn show<const N: usize>(parts: [&[u8]; N], most: usize, room: &mut [u8]) -> Result<usize, u8> {
+    let count = most.min(parts.iter().map(|part| part.len()).sum());
+    let room = room.get_mut(..count).ok_or(8)?;
+    let mut at = 0;
+    for part in parts {
+        let end = count.min(at + part.len());
+        room[at..end].copy_from_slice(&part[..end - at]);
+        at = end;
+    }
+    Ok(count)
+}
+
+/// What the drive, and the translator for it, say of themselves.
+struct Drive<'a> {
+    block: Option<&'a Block>,
+    signature: &'a [u8; 20],
+    texts: &'a [u8; 28],
+    reply: &'a [u8],
+}
+
+impl<'a> Drive<'a> {
+    fn new(block: &'a [u8], signature: &'a [u8], texts: &'a [u8], reply: &'a [u8]) -> Option<Drive<'a>> {
+        let block = if block.is_empty() { None } else { Some(block.try_into().ok()?) };
+        Some(Drive { block, signature: signature.try_into().ok()?, texts: texts.try_into().ok()?, reply })
+    }
+}
+
+const REPLY: u8 = 0;
+const ROOM: u8 = 1;
+
+/// What is shown, and how many bytes of it.
+fn inquiry(command: &[u8], drive: &Drive, room: &mut [u8]) -> Result<(u8, usize), u8> {
+    let (flags, page, most, control) = match *command {
+        [0x12, flags, page, high, low, control, ..] => (flags & 3, page, u16::from_be_bytes([high, low]).into(), control),
+        [] | [0x12, ..] => return Err(2),
+        _ => return Err(3),
+    };
+    let packet = drive.signature[5..7] == [0x14, 0xEB];
+    let count = match (packet, flags, page, drive.block) {
+        (true, 1, 0x00, _) => packet_page00(drive.reply, most, room),
+        (false, _, _, _) if control & 4 != 0 || flags & 2 != 0 || (flags == 0 && page != 0) => Err(4),
+        (_, 1, 0x89, block) => show([&page89_head(drive, packet), block.unwrap_or(&[0; 512])], most, room),
+        (true, _, _, _) => return Ok((REPLY, most.min(drive.reply.len()))),
+        (false, 1, 0x00, _) => show([&[0x00, 0x00, 0x00, 0x04, 0x00, 0x80, 0x83, 0x89]], most, room),
+        (false, 1, 0x01..=0x7F | 0x81 | 0x82 | 0x84..=0xFF, _) => Err(5),
+        (false, _, _, None) => Err(6),
+        (false, 1, 0x80, Some(block)) => show([&page80(block)], most, room),
+        (false, 1, _, Some(block)) => page83(block, most, room),
+        (false, _, _, Some(block)) => show([&standard_data(block)], most, room),
+    };
+    Ok((ROOM, count?))
+}
+
+// ---- Orders ----
+
+/// A pass-through command of either form. Without EXTEND the upper register bytes are zero.
+struct Asked {
+    first: u8,
+    second: u8,
+    extend: bool,
+    registers: [u16; 5],
+    device: u8,
+    command: u8,
+    control: u8,
+}
+
+fn read(command: &[u8]) -> Result<Asked, u8> {
+    match *command {
+        [0xA1, first, second, f, c, l, m, h, device, command, _, control, ..] => {
+            let registers = [f, c, l, m, h].map(u16::from);
+            Ok(Asked { first, second, extend: false, registers, device, command, control })
+        }
+        [0x85, first, second, f, f0, c, c0, l, l0, m, m0, h, h0, device, command, control, ..] => {
+            let extend = first & 1 != 0;
+            let mask = if extend { 0xFFFF } else { 0x00FF };
+            let registers = [[f, f0], [c, c0], [l, l0], [m, m0], [h, h0]].map(|bytes| u16::from_be_bytes(bytes) & mask);
+            Ok(Asked { first, second, extend, registers, device, command, control })
+        }
+        [] | [0xA1 | 0x85, ..] => Err(2),
+        _ => Err(3),
+    }
+}
+
+/// The length of the data in bytes, which T_LENGTH takes from one of three places.
+fn length_of(asked: &Asked, declared: u32) -> u32 {
+    let unit = if asked.second & 4 != 0 { 512 } else { 1 };
+    match asked.second & 3 {
+        0 => 0,
+        1 => u32::from(asked.registers[0]) * unit,
+        2 => u32::from(asked.registers[1]) * unit,
+        _ => declared,
+    }
+}
+
+fn order_of(asked: &Asked, protocol: u8, declared: u32) -> Result<Order, u8> {
+    let quiet_seconds = (2 << (asked.second >> 6)) - 2;
+    if protocol < 2 {
+        return Ok(Order { protocol, quiet_seconds, sectors_per_block: 1, ..Order::default() });
+    }
+    let data = !matches!(protocol, 3 | 8 | 9);
+    let from_drive = asked.second & 8 != 0;
+    let length = length_of(asked, declared);
+    let [features, count, lba_low, lba_mid, lba_high] = asked.registers;
+    match (protocol, from_drive) {
+        _ if data == (asked.second & 3 == 0) => Err(11),
+        (4 | 10, false) | (5 | 11, true) => Err(12),
+        _ if data && length == 0 => Err(13),
+        _ if length > declared => Err(14),
+        _ => Ok(Order {
+            length,
+            features,
+            count,
+            lba_low,
+            lba_mid,
+            lba_high,
+            quiet_seconds,
+            sectors_per_block: 1 << (asked.first >> 5),
+            device: asked.device,
+            command: asked.command,
+            protocol,
+            ck_cond: asked.second >> 5 & 1,
+            extend: asked.extend.into(),
+            direction: if !data { 0 } else if from_drive { 1 } else { 2 },
+        }),
+    }
+}
+
+fn submit(
+    record: &mut Pending, command: &[u8], registers: &[u8], declared: u32, sense: &mut [u8],
+) -> Result<(u8, Order), u8> {
+    let registers = registers.try_into().ok().filter(|_| sense.len() >= 22).ok_or(1)?;
+    let asked = read(command)?;
+    match asked.first >> 1 & 15 {
+        _ if asked.control & 4 != 0 => Err(4),
+        2 | 7 | 12 | 13 | 14 => Err(9),
+        15 => Ok((report([0x01, 0x00, 0x1D], false, registers, sense), Order::default())),
+        _ if record.state != 0 => Err(10),
+        protocol => {
+            let order = order_of(&asked, protocol, declared)?;
+            *record = Pending { state: 1, order };
+            Ok((NONE, order))
+        }
+    }
+}
+
+fn complete(record: &mut Pending, registers: &[u8], sense: &mut [u8]) -> Result<u8, u8> {
+    let registers: &[u8; 11] = registers.try_into().ok().filter(|_| sense.len() >= 22).ok_or(1)?;
+    if record.state == 0 {
+        return Err(15);
+    }
+    let order = std::mem::take(record).order;
+    Ok(if registers[10] & 0x21 != 0 {
+        report([0x0B, 0x00, 0x00], order.extend != 0, registers, sense)
+    } else if order.ck_cond != 0 {
+        report([0x01, 0x00, 0x1D], order.extend != 0, registers, sense)
+    } else {
+        GOOD
+    })
+}
+
+// ---- The reader of page 83h, and the roll ----
+
+/// The form of a page 83h, and the bytes of its name.
+fn read_page83(page: &[u8]) -> Option<(u8, &[u8])> {
+    match page.strip_prefix(&NAME_HEAD) {
+        Some(name) => (name.len() == 8 && name != [0; 8]).then(|| (1, name)),
+        None => page.strip_prefix(&TEXTS_HEAD).filter(|texts| texts.len() == 60 && !texts.contains(&0)).map(|texts| (2, texts)),
+    }
+}
+
 /// Whether two texts are equal with zero bytes read as spaces.
 fn same_text(a: &[u8], b: &[u8]) -> bool {
-    let shown = |byte: u8| if byte == 0 { b' ' } else { byte };
-    a.iter().zip(b).all(|(&x, &y)| shown(x) == shown(y))
+    a.iter().zip(b).all(|(&x, &y)| spaced(x) == spaced(y))
 }
 
 fn same_drive(a: &[u8], b: &[u8]) -> bool {
@@ -32,13 +385,90 @@ fn roll(bytes: &[u8], rows: &mut [u16]) -> Option<(u16, u16)> {
     Some(((bytes.len() / 512) as u16, drives))
 }
 
-/// The C name: the drive count, or -1 for a refusal.
-///
-/// # Safety
-/// `bytes` and `rows` are lent for as many bytes and rows as the counts say.
+// ---- The C calls. Each lends its pieces for as many bytes as the numbers behind the pointers say. ----
+
+use std::slice::{from_raw_parts as lent, from_raw_parts_mut as lent_mut};
+
 #[no_mangle]
-pub unsafe extern "C" fn plain_roll(bytes: *const u8, count: usize, rows: *mut u16, row_count: usize) -> i32 {
-    let bytes = std::slice::from_raw_parts(bytes, count);
-    let rows = std::slice::from_raw_parts_mut(rows, row_count);
-    roll(bytes, rows).map_or(-1, |(_, drives)| i32::from(drives))
+pub extern "C" fn plain_empty() -> Pending {
+    Pending::default()
+}
+
+/// # Safety
+/// As the header says of piongseut_inquiry.
+#[no_mangle]
+pub unsafe extern "C" fn plain_inquiry(
+    command: *const u8, command_size: usize, block: *const u8, block_size: usize, signature: *const u8, signature_size: usize,
+    texts: *const u8, texts_size: usize, reply: *const u8, reply_size: usize, room: *mut u8, room_size: usize,
+    sense: *mut u8, sense_size: usize,
+) -> InquiryAnswer {
+    let (texts, reply) = (lent(texts, texts_size), lent(reply, reply_size));
+    let drive = Drive::new(lent(block, block_size), lent(signature, signature_size), texts, reply);
+    let sense = lent_mut(sense, sense_size);
+    let drive = drive.filter(|_| sense.len() >= 22).ok_or(1);
+    match drive.and_then(|drive| inquiry(lent(command, command_size), &drive, lent_mut(room, room_size))) {
+        Ok((shown, count)) => InquiryAnswer { number: 0, status: GOOD, shown, count },
+        Err(number) => InquiryAnswer { number, status: refuse(number, sense), shown: ROOM, count: 0 },
+    }
+}
+
+/// # Safety
+/// As the header says of piongseut_submit.
+#[no_mangle]
+pub unsafe extern "C" fn plain_submit(
+    record: &mut Pending, command: *const u8, command_size: usize, registers: *const u8, registers_size: usize, declared: u32,
+    sense: *mut u8, sense_size: usize,
+) -> Taken {
+    let (command, registers) = (lent(command, command_size), lent(registers, registers_size));
+    let sense = lent_mut(sense, sense_size);
+    match submit(record, command, registers, declared, sense) {
+        Ok((status, order)) => Taken { number: 0, status, order },
+        Err(number) => Taken { number, status: refuse(number, sense), order: Order::default() },
+    }
+}
+
+/// # Safety
+/// As the header says of piongseut_complete.
+#[no_mangle]
+pub unsafe extern "C" fn plain_complete(
+    record: &mut Pending, registers: *const u8, registers_size: usize, sense: *mut u8, sense_size: usize,
+) -> Ended {
+    let sense = lent_mut(sense, sense_size);
+    match complete(record, lent(registers, registers_size), sense) {
+        Ok(status) => Ended { number: 0, status },
+        Err(number) => Ended { number, status: refuse(number, sense) },
+    }
+}
+
+/// # Safety
+/// As the header says of piongseut_write_page83.
+#[no_mangle]
+pub unsafe extern "C" fn plain_write_page83(block: *const u8, block_size: usize, room: *mut u8, room_size: usize) -> Written {
+    let block = lent(block, block_size).try_into().map_err(|_| 1);
+    match block.and_then(|block| page83(block, usize::MAX, lent_mut(room, room_size))) {
+        Ok(count) => Written { number: 0, count },
+        Err(number) => Written { number, count: 0 },
+    }
+}
+
+/// # Safety
+/// As the header says of piongseut_read_page83.
+#[no_mangle]
+pub unsafe extern "C" fn plain_read_page83(page: *const u8, page_size: usize) -> Name {
+    let mut answer = Name { number: 16, form: 0, name: [0; 60] };
+    if let Some((form, name)) = read_page83(lent(page, page_size)) {
+        (answer.number, answer.form) = (0, form);
+        answer.name[..name.len()].copy_from_slice(name);
+    }
+    answer
+}
+
+/// # Safety
+/// As the header says of piongseut_roll.
+#[no_mangle]
+pub unsafe extern "C" fn plain_roll(blocks: *const u8, blocks_size: usize, rows: *mut u16, rows_size: usize) -> RollAnswer {
+    match roll(lent(blocks, blocks_size), lent_mut(rows, rows_size)) {
+        Some((blocks, drives)) => RollAnswer { number: 0, blocks, drives },
+        None => RollAnswer { number: 1, blocks: 0, drives: 0 },
+    }
 }

@@ -166,12 +166,52 @@ static void put_record(const piongseut_pending *record)
 
 /* ---- The calls ---- */
 
+/*
+ * CALL makes one call of a function. Compiled with MEASURE_STACK, it makes it over painted stack and keeps the deepest use, which
+ * is told for each function when the input ends: bytes, and the number of calls.
+ */
+#ifdef MEASURE_STACK
+#include "stack.h"
+
+static struct {
+    size_t deepest;
+    unsigned long calls;
+} used[FUNCTIONS];
+
+static void note(unsigned function, size_t depth)
+{
+    used[function].calls++;
+    if (used[function].deepest < depth)
+        used[function].deepest = depth;
+}
+
+static void tell_stack(void)
+{
+    static const char *const names[FUNCTIONS] = {"empty", "inquiry", "submit", "complete", "write_page83", "read_page83", "roll"};
+    for (unsigned at = 0; at < FUNCTIONS; at++)
+        fprintf(stderr, "piongseut_%s %zu %lu\n", names[at], used[at].deepest, used[at].calls);
+}
+
+#define CALL(function, ...)            \
+    do {                               \
+        stack_paint();                 \
+        STACK_CALL(__VA_ARGS__);       \
+        note(function, stack_depth()); \
+    } while (0)
+#else
+static void tell_stack(void)
+{
+}
+
+#define CALL(function, ...) __VA_ARGS__
+#endif
+
 #define LENT(n) piece[n].at, piece[n].size
 
 static void call_inquiry(void)
 {
-    piongseut_inquiry_answer answer =
-        piongseut_inquiry(LENT(0), LENT(1), LENT(2), LENT(3), LENT(4), LENT(5), LENT(6));
+    piongseut_inquiry_answer answer;
+    CALL(INQUIRY, answer = piongseut_inquiry(LENT(0), LENT(1), LENT(2), LENT(3), LENT(4), LENT(5), LENT(6)));
     put(answer.number, 1);
     put(answer.status, 1);
     put(answer.shown, 1);
@@ -180,7 +220,8 @@ static void call_inquiry(void)
 
 static void call_submit(uint32_t declared)
 {
-    piongseut_taken taken = piongseut_submit(&kept.record, LENT(0), LENT(1), declared, LENT(2));
+    piongseut_taken taken;
+    CALL(SUBMIT, taken = piongseut_submit(&kept.record, LENT(0), LENT(1), declared, LENT(2)));
     put(taken.number, 1);
     put(taken.status, 1);
     put_order(&taken.order);
@@ -188,21 +229,24 @@ static void call_submit(uint32_t declared)
 
 static void call_complete(void)
 {
-    piongseut_ended ended = piongseut_complete(&kept.record, LENT(0), LENT(1));
+    piongseut_ended ended;
+    CALL(COMPLETE, ended = piongseut_complete(&kept.record, LENT(0), LENT(1)));
     put(ended.number, 1);
     put(ended.status, 1);
 }
 
 static void call_write(void)
 {
-    piongseut_written written = piongseut_write_page83(LENT(0), LENT(1));
+    piongseut_written written;
+    CALL(WRITE, written = piongseut_write_page83(LENT(0), LENT(1)));
     put(written.number, 1);
     put(written.count, 8);
 }
 
 static void call_read(void)
 {
-    piongseut_name name = piongseut_read_page83(LENT(0));
+    piongseut_name name;
+    CALL(READ, name = piongseut_read_page83(LENT(0)));
     put(name.number, 1);
     put(name.form, 1);
     for (unsigned at = 0; at < sizeof name.name; at++)
@@ -211,7 +255,8 @@ static void call_read(void)
 
 static void call_roll(void)
 {
-    piongseut_roll_answer answer = piongseut_roll(LENT(0), (uint16_t *)(void *)piece[1].at, piece[1].size / 2);
+    piongseut_roll_answer answer;
+    CALL(ROLL, answer = piongseut_roll(LENT(0), (uint16_t *)(void *)piece[1].at, piece[1].size / 2));
     put(answer.number, 1);
     put(answer.blocks, 2);
     put(answer.drives, 2);
@@ -222,7 +267,7 @@ static void call(unsigned function, uint32_t declared)
     piongseut_pending empty;
     switch (function) {
     case EMPTY:
-        empty = piongseut_empty();
+        CALL(EMPTY, empty = piongseut_empty());
         put_record(&empty);
         break;
     case INQUIRY: call_inquiry(); break;
@@ -341,5 +386,6 @@ int main(void)
             serve();
         write_all(answers, (size_t)(out - answers));
     }
+    tell_stack();
     return 0;
 }
