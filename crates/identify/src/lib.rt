@@ -5,7 +5,7 @@ ghost use mathlib.Core.Bool.{_&&_};
 ghost use mathlib.Core.List.{List, map};
 ghost use Prim.Native.Nat.{_<_};
 ghost use lib.ListN.{length, getD};
-ghost use Rattle.room.specs.Room.{Wrote};
+ghost use Rattle.room.specs.Room.{Wrote, fitting};
 ghost use Rattle.identify.specs.Block.{word as Block·word, serial as Block·serial, model as Block·model, name as Block·name};
 ghost use Rattle.identify.specs.Text.{turned, spaced, shown as Text·shown};
 ghost use Rattle.identify.specs.Drive.{someBit, carriesName, equal, sameDrive};
@@ -26,23 +26,26 @@ pub fn word(block: &[u8], w: u8) -> u16
 
 // The serial number as it stands in the block.
 pub fn serial(block: &[u8]) -> &[u8]
+    requires { ⌜ length (now block) ≡ 512 ⌝ }
     ensures { λ r. ⌜ now r ≡ Block·serial (now (block .entry)) ⌝ }
 {
-    rules::part(block, 20, 40)
+    &block[20..40]
 }
 
 // The model as it stands in the block.
 pub fn model(block: &[u8]) -> &[u8]
+    requires { ⌜ length (now block) ≡ 512 ⌝ }
     ensures { λ r. ⌜ now r ≡ Block·model (now (block .entry)) ⌝ }
 {
-    rules::part(block, 54, 94)
+    &block[54..94]
 }
 
 // The name as it stands in the block.
 pub fn name(block: &[u8]) -> &[u8]
+    requires { ⌜ length (now block) ≡ 512 ⌝ }
     ensures { λ r. ⌜ now r ≡ Block·name (now (block .entry)) ⌝ }
 {
-    rules::part(block, 216, 224)
+    &block[216..224]
 }
 
 fn shown(spaced: bool, byte: u8) -> u8
@@ -69,11 +72,11 @@ fn turned_at(text: &[u8], i: usize, spaced: bool) -> u8
     shown(spaced, text[i])
 }
 
-// Writes a text turned, word by word; the last byte that fits alone stands for itself.
-fn put_text(room: &mut [u8], at: usize, text: &[u8], spaced: bool)
+// Writes the first n bytes of a turned text, word by word, where n of them fit; the last byte that fits alone stands for itself.
+fn put_words(room: &mut [u8], at: usize, text: &[u8], spaced: bool, n: usize)
+    requires { ⌜ n ≡ fitting (length (now room)) at (length (now text)) ⌝ }
     ensures { λ _. ⌜ Wrote (now (room .entry)) at (map (Text·shown spaced) (turned (now (text .entry)))) (now (room .exit)) ⌝ }
 {
-    let n = room::fit(room.len(), at, text.len());
     let mut i = 0;
     while i + 1 < n {
         room[at + i] = shown(spaced, text[i + 1]);
@@ -83,6 +86,18 @@ fn put_text(room: &mut [u8], at: usize, text: &[u8], spaced: bool)
     if i < n {
         room[at + i] = turned_at(text, i, spaced);
     }
+}
+
+// Writes a text turned. As in `room::put`, a text that fits whole goes by its own length.
+fn put_text(room: &mut [u8], at: usize, text: &[u8], spaced: bool)
+    ensures { λ _. ⌜ Wrote (now (room .entry)) at (map (Text·shown spaced) (turned (now (text .entry)))) (now (room .exit)) ⌝ }
+{
+    let n = room::fit(room.len(), at, text.len());
+    if n == text.len() {
+        put_words(room, at, text, spaced, text.len());
+        return;
+    }
+    put_words(room, at, text, spaced, n);
 }
 
 // Writes a text turned, its zero bytes kept. The name's words so go high byte first.
@@ -115,6 +130,7 @@ pub fn some_bit(bytes: &[u8]) -> bool
 
 // Whether a block carries a world wide name.
 pub fn carries_name(block: &[u8]) -> bool
+    requires { ⌜ length (now block) ≡ 512 ⌝ }
     ensures { λ r. ⌜ r ≡ carriesName (now (block .entry)) ⌝ }
 {
     some_bit(name(block))
@@ -145,12 +161,14 @@ pub fn same_bytes(a: &[u8], b: &[u8]) -> bool
 }
 
 fn same_name(a: &[u8], b: &[u8]) -> bool
+    requires { ⌜ (length (now a) ≡ 512) × (length (now b) ≡ 512) ⌝ }
     ensures { λ r. ⌜ r ≡ equal (Block·name (now (a .entry))) (Block·name (now (b .entry))) ⌝ }
 {
     same_bytes(name(a), name(b))
 }
 
 fn same_texts(a: &[u8], b: &[u8]) -> bool
+    requires { ⌜ (length (now a) ≡ 512) × (length (now b) ≡ 512) ⌝ }
     ensures { λ r. ⌜ r ≡ (equal (spaced (Block·model (now (a .entry)))) (spaced (Block·model (now (b .entry)))) && equal (spaced (Block·serial (now (a .entry)))) (spaced (Block·serial (now (b .entry))))) ⌝ }
 {
     if alike(model(a), model(b), true) {
@@ -161,6 +179,7 @@ fn same_texts(a: &[u8], b: &[u8]) -> bool
 
 // Whether two blocks are of the same drive.
 pub fn same_drive(a: &[u8], b: &[u8]) -> bool
+    requires { ⌜ (length (now a) ≡ 512) × (length (now b) ≡ 512) ⌝ }
     ensures { λ r. ⌜ r ≡ sameDrive (now (a .entry)) (now (b .entry)) ⌝ }
 {
     if carries_name(a) {

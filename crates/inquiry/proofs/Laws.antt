@@ -1,6 +1,6 @@
 -- Laws of the INQUIRY entry: what the checks leave true once they have passed, and the page's size.
-use mathlib.Core.Path.{_≡_, refl}
-use mathlib.Core.Bool.{Bool, true, false, cond, _&&_, _||_, not}
+use mathlib.Core.Path.{_≡_, refl, sym, _∙_}
+use mathlib.Core.Bool.{Bool, true, false, cond, _&&_, _||_, not, and-eq-true-iff, true≢false}
 use mathlib.Core.List.{List}
 use Prim.Native.Nat.{ℕ, _≤_}
 use lib.Dec.{eqb, ltb}
@@ -10,7 +10,7 @@ use Rattle.rules.proofs.Checks.{silent, neither, first-of-two}
 use Rattle.pages.specs.Page.{page00}
 use Rattle.pages.proofs.Laws.{length-page89}
 use Rattle.packet.specs.Packet.{unusable}
-use Rattle.inquiry.specs.Command.{pageCode}
+use Rattle.inquiry.specs.Command.{evpd, cmddt, pageCode}
 use Rattle.inquiry.specs.Inquiry.{Request, isPacket, passesThrough, wrongSize, page, sizeOf, toWrite, checks, refusalOf, earlyRefusal, Servable}
 
 length-cond : (b : Bool) (x y : List ℕ) → length (cond b x y) ≡ cond b (length x) (length y)
@@ -18,12 +18,13 @@ length-cond true x y = refl
 length-cond false x y = refl
 
 -- The sizes, where check 1 does not apply.
-pub record Sized (signature texts : List ℕ) (sense : ℕ) : Type 0 where
+pub record Sized (block signature texts : List ℕ) (sense : ℕ) : Type 0 where
+  pub whole-or-none : not (eqb (length block) 512 || eqb (length block) 0) ≡ false
   pub twenty : length signature ≡ 20
   pub twenty-eight : length texts ≡ 28
   pub enough : 22 ≤ sense
 
-pub sized : (block signature texts : List ℕ) (sense : ℕ) → wrongSize block signature texts sense ≡ false → Sized signature texts sense
+pub sized : (block signature texts : List ℕ) (sense : ℕ) → wrongSize block signature texts sense ≡ false → Sized block signature texts sense
 sized block signature texts sense e =
     let a = not (eqb (length block) 512 || eqb (length block) 0) in
     let b = not (eqb (length signature) 20) in
@@ -31,6 +32,7 @@ sized block signature texts sense e =
     let s = neither (a || b || c) (ltb sense 22) e in
     let t = neither (a || b) c (s .0) in
     record {
+      whole-or-none = neither a b (t .0) .0;
       twenty = eqb-true _ _ (not-false _ (neither a b (t .0) .1));
       twenty-eight = eqb-true _ _ (not-false _ (t .1));
       enough = ltb-false _ _ (s .1);
@@ -53,6 +55,26 @@ module _ (q : Request) (room sense : ℕ) where
   pub refused-late : earlyRefusal q sense ≡ 0 → refusalOf q room sense ≡ cond (not (passesThrough (isPacket q) (q .command)) && ltb room (toWrite q)) 8 0
   refused-late h = rw (two-runs, eq-eqb _ _ h)
 
+-- A page that is made of the block has a whole one: there is one or none, and check 6 did not find none.
+module _ (code : ℕ) where
+  not-both : (b : Bool) → eqb code 0x80 ≡ b → (b || eqb code 0x83) ≡ true → (eqb code 0x00 || eqb code 0x89) ≡ true → ⊥
+  not-both true e g h = true≢false (sym h ∙ rw (eqb-true code 0x80 e))
+  not-both false e g h = true≢false (sym h ∙ rw (eqb-true code 0x83 g))
+
+one-of : (whole none asked : Bool) → (none && asked) ≡ false → asked ≡ true → not (whole || none) ≡ false → whole ≡ true
+one-of true none asked s g e = refl
+one-of false true asked s g e = absurd (true≢false (sym g ∙ s))
+one-of false false asked s g e = absurd (true≢false e)
+
+whole-block : (packet evpd cmddt : Bool) (code size : ℕ)
+    → (not packet && (eqb size 0 && (not evpd || eqb code 0x80 || eqb code 0x83))) ≡ false
+    → not (eqb size 512 || eqb size 0) ≡ false
+    → (packet && not (evpd && not cmddt && (eqb code 0x00 || eqb code 0x89))) ≡ false
+    → (not packet && not evpd || eqb code 0x80 || eqb code 0x83) ≡ true → size ≡ 512
+whole-block true evpd cmddt code size s e h g =
+    absurd (not-both code (eqb code 0x80) refl g (and-eq-true-iff (evpd && not cmddt) _ .0 (not-false _ h) .1))
+whole-block false evpd cmddt code size s e h g = eqb-true size 512 (one-of _ _ _ s g e)
+
 -- What holds once none of the early checks has applied.
 pub record Granted (q : Request) : Type 0 where
   pub servable : passesThrough (isPacket q) (q .command) ≡ false → Servable q
@@ -64,14 +86,15 @@ granted q sense e =
     let c = silent (take 8 (checks q 0 sense)) refl e in
     let s = sized (q .block) (q .signature) (q .texts) sense (c .0) in
     let short = c .1 .1 .1 in
-    let list = short .1 .1 .1 .1 in
+    let list = short .1 .1 .1 in
     record {
       servable = λ h.
           record {
             command = ltb-false _ _ (short .0);
             texts = s .twenty-eight;
             signature = s .twenty;
-            reply = listed (isPacket q) (eqb (pageCode (q .command)) 0x00) (unusable (q .reply)) _ h (list .0);
+            block = whole-block (isPacket q) (evpd (q .command)) (cmddt (q .command)) (pageCode (q .command)) (length (q .block)) (list .0) (s .whole-or-none) h;
+            reply = listed (isPacket q) (eqb (pageCode (q .command)) 0x00) (unusable (q .reply)) _ h (list .1 .0);
           };
       whole = ltb-false _ _ (short .0);
     }

@@ -1,6 +1,6 @@
 -- The INQUIRY entry: what it is lent, the checks as the table has them, and what comes of it.
 use mathlib.Core.Path.{_≡_}
-use mathlib.Core.Bool.{Bool, false, cond, _&&_, _||_, not}
+use mathlib.Core.Bool.{Bool, true, false, cond, _&&_, _||_, not}
 use mathlib.Core.List.{List, [], _∷_, _++_}
 use Prim.Native.Nat.{ℕ, _+_, _≤_, min}
 use lib.Dec.{eqb, ltb}
@@ -51,6 +51,11 @@ sizeOf packet command block reply =
     (cond (eqb (pageCode command) 0x80) (length (page80 block))
     (cond (eqb (pageCode command) 0x83) (length (page83 block))
     (60 + length (blockOrZeros block)))))
+
+-- Whether it is made of the block. For private functions; no rule names it.
+abbrev pub fromBlock : Bool → List ℕ → Bool
+fromBlock packet command =
+    not packet && not (evpd command) || eqb (pageCode command) 0x80 || eqb (pageCode command) 0x83
 
 -- "n the lesser of page size and allocation length"
 abbrev pub toWrite : Request → ℕ
@@ -150,3 +155,4 @@ pub record Servable (q : Request) : Type 0 where
   pub texts : length (q .texts) ≡ 28
   pub signature : length (q .signature) ≡ 20
   pub reply : (eqb (pageCode (q .command)) 0x00 && isPacket q && unusable (q .reply)) ≡ false
+  pub block : fromBlock (isPacket q) (q .command) ≡ true → length (q .block) ≡ 512

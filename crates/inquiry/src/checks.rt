@@ -1,12 +1,12 @@
 // The checks of the INQUIRY entry, one function each; `fault` runs them in the table's order.
 ghost use mathlib.Core.Path.{_≡_};
-ghost use mathlib.Core.Bool.{Bool, _&&_, _||_, not};
+ghost use mathlib.Core.Bool.{Bool, true, _&&_, _||_, not};
 ghost use mathlib.Core.List.{List};
 ghost use Prim.Native.Nat.{ℕ, _≤_};
 ghost use lib.Dec.{eqb};
 ghost use lib.ListN.{length};
 ghost use Rattle.inquiry.specs.Command.{evpd as Command·evpd, allocation as Command·allocation};
-ghost use Rattle.inquiry.specs.Inquiry.{request, wrongSize, wrongField, knownPage, wrongPage, noBlock, noList, passesThrough, sizeOf, earlyRefusal};
+ghost use Rattle.inquiry.specs.Inquiry.{request, wrongSize, wrongField, knownPage, wrongPage, noBlock, noList, passesThrough, fromBlock, sizeOf, earlyRefusal};
 
 // Neither 512 bytes nor none.
 fn wrong_block(block: usize) -> bool
@@ -168,11 +168,11 @@ pub fn standard_asked(packet: bool, command: &[u8]) -> bool
 
 // The size of the page that is asked for.
 pub fn size(packet: bool, command: &[u8], block: &[u8], reply: &[u8]) -> usize
-    requires { ⌜ 6 ≤ length (now command) ⌝ }
+    requires { ⌜ (6 ≤ length (now command)) × (fromBlock packet (now command) ≡ true → length (now block) ≡ 512) ⌝ }
     ensures { λ r. ⌜ r ≡ sizeOf packet (now (command .entry)) (now (block .entry)) (now (reply .entry)) ⌝ }
 {
     if standard_asked(packet, command) {
-        return pages::standard_size(block);
+        return pages::STANDARD_SIZE;
     }
     if command[2] == 0x00 {
         if packet {
@@ -181,7 +181,7 @@ pub fn size(packet: bool, command: &[u8], block: &[u8], reply: &[u8]) -> usize
         return 8;
     }
     if command[2] == 0x80 {
-        return pages::serial_size(block);
+        return pages::SERIAL_SIZE;
     }
     if command[2] == 0x83 {
         return page83::size(block);

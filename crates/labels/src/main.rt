@@ -2,6 +2,8 @@
 // board shows them, its world wide name, and the place of the first block of the same drive.
 use libc::STDERR_FILENO;
 use libc::STDOUT_FILENO;
+ghost use mathlib.Core.Path.{_≡_};
+ghost use lib.ListN.{length};
 
 // Writes to standard output; false where that fails, here and below.
 fn say(text: &[u8]) -> bool {
@@ -9,14 +11,18 @@ fn say(text: &[u8]) -> bool {
 }
 
 // The model, turned and spaced, in brackets.
-fn say_model(block: &[u8]) -> bool {
+fn say_model(block: &[u8]) -> bool
+    requires { ⌜ length (now block) ≡ 512 ⌝ }
+{
     let mut shown = [0u8; 40];
     identify::put_spaced(&mut shown, 0, identify::model(block));
     say(b" [") && say(&shown) && say(b"]")
 }
 
 // The serial number, turned and spaced, in brackets.
-fn say_serial(block: &[u8]) -> bool {
+fn say_serial(block: &[u8]) -> bool
+    requires { ⌜ length (now block) ≡ 512 ⌝ }
+{
     let mut shown = [0u8; 20];
     identify::put_spaced(&mut shown, 0, identify::serial(block));
     say(b" [") && say(&shown) && say(b"]")
@@ -28,7 +34,9 @@ fn say_word(block: &[u8], w: u8) -> bool {
 }
 
 // The world wide name, words 108 to 111.
-fn say_name(block: &[u8]) -> bool {
+fn say_name(block: &[u8]) -> bool
+    requires { ⌜ length (now block) ≡ 512 ⌝ }
+{
     if !identify::carries_name(block) {
         return say(b" no name");
     }
@@ -43,7 +51,9 @@ fn say_place(i: usize) -> bool {
     io::print_decimal(STDOUT_FILENO, i as u64)
 }
 
-fn label(i: usize, block: &[u8], first: usize) -> bool {
+fn label(i: usize, block: &[u8], first: usize) -> bool
+    requires { ⌜ length (now block) ≡ 512 ⌝ }
+{
     say_place(i)
         && say_model(block)
         && say_serial(block)

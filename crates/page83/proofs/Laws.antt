@@ -21,25 +21,26 @@ module _ (block : List ℕ) where
   unfolding page83
   unnamed-page h = rw h
 
--- The page's size, over the fields as they stand in the block.
-module _ (block : List ℕ) where
-  pub length-named : carriesName block ≡ true → length (page83 block) ≡ 8 + length (name block)
-  length-named h = rw (named-page block h) (omega (arith, length-turned (name block)))
+-- The page's size: 16 or 76 bytes.
+module _ (block : List ℕ) (h : length block ≡ 512) where
+  pub length-model : length (spaced (turned (model block))) ≡ 40
+  length-model = length-spaced (turned (model block)) ∙ length-turned (model block) ∙ length-words 27 46 block (omega arith)
 
-  pub length-model : length (spaced (turned (model block))) ≡ length (model block)
-  length-model = length-spaced (turned (model block)) ∙ length-turned (model block)
+  pub length-serial : length (spaced (turned (serial block))) ≡ 20
+  length-serial = length-spaced (turned (serial block)) ∙ length-turned (serial block) ∙ length-words 10 19 block (omega arith)
 
-  pub length-unnamed : carriesName block ≡ false → length (page83 block) ≡ 16 + length (model block) + length (serial block)
-  length-unnamed h =
+  pub length-named : carriesName block ≡ true → length (page83 block) ≡ 16
+  length-named e = rw (named-page block e) (omega (arith, length-turned (name block), length-words 108 111 block (omega arith)))
+
+  pub length-unnamed : carriesName block ≡ false → length (page83 block) ≡ 76
+  length-unnamed e =
       let m = spaced (turned (model block)) in
       let s = spaced (turned (serial block)) in
-      let l : length s ≡ length (serial block) = length-spaced (turned (serial block)) ∙ length-turned (serial block) in
-      rw (unnamed-page block h) (omega (arith, length-append (ata ++ m) s, length-append ata m, length-model))
+      rw (unnamed-page block e) (omega (arith, length-append (ata ++ m) s, length-append ata m, length-model, length-serial))
 
--- A drive's page has 16 or 76 bytes.
 pub page-sizes : (block : List ℕ) → length block ≡ 512 → length (page83 block) ≡ cond (carriesName block) 16 76
 page-sizes block h = by (carriesName block) refl
   where
     by : (b : Bool) → carriesName block ≡ b → length (page83 block) ≡ cond b 16 76
-    by true e = length-named block e ∙ omega (arith, length-words 108 111 block (omega arith))
-    by false e = length-unnamed block e ∙ omega (arith, length-words 27 46 block (omega arith), length-words 10 19 block (omega arith))
+    by true e = length-named block h e
+    by false e = length-unnamed block h e

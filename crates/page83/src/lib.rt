@@ -53,6 +53,7 @@ pub struct Name {
 
 // The page of a drive that carries a name.
 fn put_name(room: &mut [u8], block: &[u8])
+    requires { ⌜ length (now block) ≡ 512 ⌝ }
     ensures { λ _. ⌜ Wrote (now (room .entry)) 0 (namePage (turned (name (now (block .entry))))) (now (room .exit)) ⌝ }
 {
     room::put(room, 0, &NAME_HEAD);
@@ -61,16 +62,17 @@ fn put_name(room: &mut [u8], block: &[u8])
 
 // The page of a drive that carries none.
 fn put_texts(room: &mut [u8], block: &[u8])
+    requires { ⌜ length (now block) ≡ 512 ⌝ }
     ensures { λ _. ⌜ Wrote (now (room .entry)) 0 (textPage (spaced (turned (model (now (block .entry))))) (spaced (turned (serial (now (block .entry)))))) (now (room .exit)) ⌝ }
 {
     room::put(room, 0, &TEXT_HEAD);
-    let model = identify::model(block);
-    identify::put_spaced(room, 16, model);
-    identify::put_spaced(room, 16 + model.len(), identify::serial(block));
+    identify::put_spaced(room, 16, identify::model(block));
+    identify::put_spaced(room, 56, identify::serial(block));
 }
 
 // Writes the page of a block, as much of it as fits.
 pub fn put(room: &mut [u8], block: &[u8])
+    requires { ⌜ length (now block) ≡ 512 ⌝ }
     ensures { λ _. ⌜ Wrote (now (room .entry)) 0 (page83 (now (block .entry))) (now (room .exit)) ⌝ }
 {
     if identify::carries_name(block) {
@@ -82,12 +84,13 @@ pub fn put(room: &mut [u8], block: &[u8])
 
 // The page's size.
 pub fn size(block: &[u8]) -> usize
+    requires { ⌜ length (now block) ≡ 512 ⌝ }
     ensures { λ r. ⌜ r ≡ length (page83 (now (block .entry))) ⌝ }
 {
     if identify::carries_name(block) {
-        return 8 + identify::name(block).len();
+        return 16;
     }
-    16 + identify::model(block).len() + identify::serial(block).len()
+    76
 }
 
 // Writes the whole page of a block into room that holds it.

@@ -7,23 +7,25 @@ use native.Mathlib.Omega.{arith}
 use lib.ListN.{length, take, length-append, length-take}
 use Rattle.identify.specs.Block.{serial, model}
 use Rattle.identify.specs.Text.{turned, spaced}
+use Rattle.identify.proofs.Block.{length-words}
 use Rattle.identify.proofs.Text.{length-turned, length-spaced}
 use Rattle.page83.specs.Page83.{ata}
 use Rattle.pages.specs.Page.{standard, page00, page80, page89, typeByte, commandCode, blockOrZeros, revision}
 
--- The product text is as long as what the model has of 16 bytes.
-pub length-product : (block : List ℕ) → length (take 16 (turned (model block))) ≡ length (take 16 (model block))
-length-product block = simp (length-take, length-turned)
+-- Of a whole block.
+module _ (block : List ℕ) (h : length block ≡ 512) where
+  pub length-product : length (take 16 (turned (model block))) ≡ 16
+  length-product = rw (length-take, length-turned, length-words 27 46 block (omega arith))
 
-pub length-standard : (block : List ℕ) → length (standard block) ≡ 20 + length (take 16 (model block))
-unfolding standard
-length-standard block =
-    let p = take 16 (turned (model block)) in
-    simp length-append (omega (arith, length-product block))
+  pub length-standard : length (standard block) ≡ 36
+  unfolding standard
+  length-standard =
+      let p = take 16 (turned (model block)) in
+      simp length-append (omega (arith, length-product))
 
-pub length-page80 : (block : List ℕ) → length (page80 block) ≡ 4 + length (serial block)
-unfolding page80
-length-page80 block = omega (arith, length-spaced (turned (serial block)), length-turned (serial block))
+  pub length-page80 : length (page80 block) ≡ 24
+  unfolding page80
+  length-page80 = omega (arith, length-spaced (turned (serial block)), length-turned (serial block), length-words 10 19 block (omega arith))
 
 pub length-page89 : (packet : Bool) (texts signature block : List ℕ) → length texts ≡ 28 → length signature ≡ 20 → length (page89 packet texts signature block) ≡ 60 + length (blockOrZeros block)
 unfolding page89

@@ -22,13 +22,15 @@ fn removable(block: &[u8]) -> u8
 
 // The first 16 bytes of the model, as they stand in the block.
 fn product(block: &[u8]) -> &[u8]
+    requires { ⌜ length (now block) ≡ 512 ⌝ }
     ensures { λ r. ⌜ now r ≡ take 16 (model (now (block .entry))) ⌝ }
 {
-    rules::part(identify::model(block), 0, 16)
+    &identify::model(block)[..16]
 }
 
 // Standard data.
 pub fn put_standard(room: &mut [u8], block: &[u8])
+    requires { ⌜ length (now block) ≡ 512 ⌝ }
     ensures { λ _. ⌜ Wrote (now (room .entry)) 0 (standard (now (block .entry))) (now (room .exit)) ⌝ }
 {
     // byte 1 RMB, 2 VERSION, 3 RESPONSE DATA FORMAT, 4 ADDITIONAL LENGTH, 8 VENDOR IDENTIFICATION
@@ -52,18 +54,13 @@ pub fn put_standard(room: &mut [u8], block: &[u8])
     ];
     room::put(room, 0, &head);
     // PRODUCT IDENTIFICATION
-    let product = product(block);
-    identify::put_turned(room, 16, product);
+    identify::put_turned(room, 16, product(block));
     // PRODUCT REVISION LEVEL
     let revision = [b' ', b' ', b' ', b' '];
-    room::put(room, 16 + product.len(), &revision);
+    room::put(room, 32, &revision);
 }
 
-pub fn standard_size(block: &[u8]) -> usize
-    ensures { λ r. ⌜ r ≡ length (standard (now (block .entry))) ⌝ }
-{
-    20 + product(block).len()
-}
+pub const STANDARD_SIZE: usize = 36;
 
 // Page 00h, the pages that the board serves.
 pub fn put_supported(room: &mut [u8])
@@ -84,6 +81,7 @@ pub fn put_supported(room: &mut [u8])
 
 // Page 80h, the serial number.
 pub fn put_serial(room: &mut [u8], block: &[u8])
+    requires { ⌜ length (now block) ≡ 512 ⌝ }
     ensures { λ _. ⌜ Wrote (now (room .entry)) 0 (page80 (now (block .entry))) (now (room .exit)) ⌝ }
 {
     let head = [0x00u8, 0x80u8, 0x00u8, 0x14u8];
@@ -91,11 +89,7 @@ pub fn put_serial(room: &mut [u8], block: &[u8])
     identify::put_spaced(room, 4, identify::serial(block));
 }
 
-pub fn serial_size(block: &[u8]) -> usize
-    ensures { λ r. ⌜ r ≡ length (page80 (now (block .entry))) ⌝ }
-{
-    4 + identify::serial(block).len()
-}
+pub const SERIAL_SIZE: usize = 24;
 
 fn type_byte(packet: bool, block: &[u8]) -> u8
     ensures { λ r. ⌜ r ≡ typeByte packet (now (block .entry)) ⌝ }

@@ -17,7 +17,8 @@ pub struct Counted {
 // Block i of a run.
 pub fn block_at(bytes: &[u8], i: usize) -> &[u8]
     requires { ⌜ 512 * i + 512 ≤ length (now bytes) ⌝ }
-    ensures { λ r. ⌜ now r ≡ take 512 (drop (512 * i) (now (bytes .entry))) ⌝ }
+    ensures block { λ r. ⌜ now r ≡ take 512 (drop (512 * i) (now (bytes .entry))) ⌝ }
+    ensures whole { λ r. ⌜ length (now r) ≡ 512 ⌝ }
 {
     let from = 512 * i;
     &bytes[from..from + 512]

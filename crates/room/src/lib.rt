@@ -19,14 +19,27 @@ pub fn fit(room: usize, at: usize, n: usize) -> usize
     room - at
 }
 
-// Writes the bytes of a slice from a place on.
-pub fn put(room: &mut [u8], at: usize, bytes: &[u8])
+// Writes the first n bytes of a slice from a place on, where n of them fit.
+fn copy(room: &mut [u8], at: usize, bytes: &[u8], n: usize)
+    requires { ⌜ n ≡ fitting (length (now room)) at (length (now bytes)) ⌝ }
     ensures { λ _. ⌜ Wrote (now (room .entry)) at (now (bytes .entry)) (now (room .exit)) ⌝ }
 {
-    let n = fit(room.len(), at, bytes.len());
     let mut i = 0;
     while i < n {
         room[at + i] = bytes[i];
         i += 1;
     }
+}
+
+// Writes the bytes of a slice from a place on. Where all of them fit, as in nearly every call, their number is the slice's own
+// length, which the compiler often knows: then it moves whole words.
+pub fn put(room: &mut [u8], at: usize, bytes: &[u8])
+    ensures { λ _. ⌜ Wrote (now (room .entry)) at (now (bytes .entry)) (now (room .exit)) ⌝ }
+{
+    let n = fit(room.len(), at, bytes.len());
+    if n == bytes.len() {
+        copy(room, at, bytes, bytes.len());
+        return;
+    }
+    copy(room, at, bytes, n);
 }

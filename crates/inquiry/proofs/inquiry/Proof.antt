@@ -73,7 +73,9 @@ returns-2 c =
     rw (late (c .before .before .before .before .before), ← c .before .before .before .before .packet-drive .ensures, sym (c .before .before .passes-through .ensures) ∙ c .before .if2 .taken, ← c .before .before .before .allocation .ensures, ← c .lesser .ensures)
 
 size-requires : tie.Need-size-requires
-size-requires c κs = here (c .before .before .before .before) .whole
+size-requires c κs =
+    let e = c .before .before .before .before in
+    (here e .whole, λ h. here e .servable (served-here c) .block (rw (← c .before .before .before .packet-drive .ensures) h))
 
 lesser-requires-2 : tie.Need-lesser-requires-2
 lesser-requires-2 c κs = search needs

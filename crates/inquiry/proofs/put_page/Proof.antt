@@ -14,7 +14,8 @@ standard-asked-requires : tie.Need-standard-asked-requires
 standard-asked-requires c κs = search needs
 
 put-standard-requires : tie.Need-put-standard-requires
-put-standard-requires c κs = search needs
+put-standard-requires c κs =
+    c .before .before .before .before .before .before .before .before .before .before .pre .block (rw (← c .before .before .before .packet-drive .ensures, sym (c .before .before .standard-asked .ensures) ∙ c .before .if1 .taken))
 
 same-length : tie.Need-same-length
 same-length c = search needs
@@ -51,7 +52,8 @@ shared-slice-read-if4 : tie.Need-shared-slice-read-if4
 shared-slice-read-if4 c = search needs
 
 put-serial-requires : tie.Need-put-serial-requires
-put-serial-requires c κs = search needs
+put-serial-requires c κs =
+    c .before .before .before .before .before .before .before .before .before .before .before .before .before .before .pre .block (rw (← c .before .before .before .before .before .before .before .packet-drive .ensures, sym (c .before .before .before .before .before .before .standard-asked .ensures) ∙ c .before .before .before .before .before .if1 .left, eq-eqb _ _ (c .before .if4 .taken)))
 
 same-length-4 : tie.Need-same-length-4
 same-length-4 c = search needs
@@ -64,7 +66,8 @@ shared-slice-read-if5 : tie.Need-shared-slice-read-if5
 shared-slice-read-if5 c = search needs
 
 put-requires-2 : tie.Need-put-requires-2
-put-requires-2 c κs = search needs
+put-requires-2 c κs =
+    c .before .before .before .before .before .before .before .before .before .before .before .before .before .before .before .before .pre .block (rw (← c .before .before .before .before .before .before .before .before .before .packet-drive .ensures, sym (c .before .before .before .before .before .before .before .before .standard-asked .ensures) ∙ c .before .before .before .before .before .before .before .if1 .left, ne-eqb _ _ (c .before .before .before .if4 .left), eq-eqb _ _ (c .before .if5 .taken)))
 
 same-length-5 : tie.Need-same-length-5
 same-length-5 c = search needs

@@ -19,9 +19,6 @@ model-requires c κs = search needs
 put-spaced-requires : tie.Need-put-spaced-requires
 put-spaced-requires c κs = search needs
 
-add-put-spaced : tie.Need-add-put-spaced
-add-put-spaced c = search needs
-
 serial-requires : tie.Need-serial-requires
 serial-requires c κs = search needs
 
@@ -35,11 +32,11 @@ returns : tie.Need-returns
 returns c =
     let s = c .before .before .before in
     let p = s .before .before .before .before in
-    let m = p .before .before in
-    let h = m .before .before .before in
+    let m = p .before in
+    let h = m .before .before .before .before in
     let a = h .before .before .before .before .before in
     beside (beside (h .put .ensures) (rw (m .model .ensures) at (p .put-spaced .ensures)) refl)
-    (rw (s .serial .ensures, m .model .ensures) at (c .before .before .put-spaced2 .ensures)) (omega (arith, length-model (a .args .block .now)))
+    (rw (s .serial .ensures) at (c .before .before .put-spaced2 .ensures)) (omega (arith, length-model (a .args .block .now) (a .pre)))
 
 pub put-texts-spec : {M : Type 1} → statement M
 put-texts-spec =
@@ -49,7 +46,6 @@ put-texts-spec =
     put-requires
     model-requires
     put-spaced-requires
-    add-put-spaced
     serial-requires
     put-spaced-requires-2
     same-length

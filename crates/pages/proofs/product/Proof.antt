@@ -1,4 +1,9 @@
 -- `product`: the front of the model.
+use mathlib.Core.Path.{_≡_, sym}
+use native.Mathlib.Omega.{arith}
+use lib.ListN.{length}
+use lib.Seq.{length-take-le}
+use Rattle.identify.proofs.Block.{length-words}
 use borrow.Author.Needs.{needs}
 use Rattle.pages.proofs.product.Statement.{statement}
 use Rattle.pages.proofs.product.Tie as tie
@@ -6,11 +11,13 @@ use Rattle.pages.proofs.product.Tie as tie
 model-requires : tie.Need-model-requires
 model-requires c κs = search needs
 
-part-requires : tie.Need-part-requires
-part-requires c κs = search needs
+slice-aggregate-result : tie.Need-slice-aggregate-result
+slice-aggregate-result c =
+    let a = c .before .before .before in
+    sym (length-take-le 16 (c .before .model .result .now) (rw (c .before .model .ensures, length-words 27 46 (a .args .block .now) (omega (arith, a .pre))) (omega arith)))
 
 returns : tie.Need-returns
-returns c = rw (c .before .model .ensures) at (c .part .ensures)
+returns c = rw (c .before .model .ensures)
 
 pub product-spec : {M : Type 1} → statement M
-product-spec = tie.close (tie.spec model-requires part-requires returns)
+product-spec = tie.close (tie.spec model-requires slice-aggregate-result returns)

@@ -25,9 +25,6 @@ product-requires c κs = search needs
 put-turned-requires : tie.Need-put-turned-requires
 put-turned-requires c κs = search needs
 
-add-put : tie.Need-add-put
-add-put c = search needs
-
 slice-aggregate-put-2 : tie.Need-slice-aggregate-put-2
 slice-aggregate-put-2 c = search needs
 
@@ -40,10 +37,12 @@ same-length c = search needs
 returns : tie.Need-returns
 unfolding standard
 returns c =
-    let p = c .before .before .before .before .before .before .before .before .before in
-    let block = p .before .before .before .before .before .before .before .before .before .args .block .now in
-    beside (beside (rw (p .before .before .before .before .before .before .removable .ensures) at (p .before .before .before .put .ensures)) (rw (p .product .ensures, ← take-turned 8 (model block)) at (c .before .before .before .before .before .before .before .put-turned .ensures)) refl)
-    (rw (p .product .ensures) at (c .before .before .put2 .ensures)) (omega (arith, length-product block))
+    let p = c .before .before .before .before .before .before .before .before in
+    let h = p .before .before .before .before in
+    let a = h .before .before .before .before .before .before in
+    let block = a .args .block .now in
+    beside (beside (rw (h .before .before .before .removable .ensures) at (h .put .ensures)) (rw (p .product .ensures, ← take-turned 8 (model block)) at (c .before .before .before .before .before .before .before .put-turned .ensures)) refl)
+    (c .before .before .put2 .ensures) (omega (arith, length-product block (a .pre)))
 
 pub put-standard-spec : {M : Type 1} → statement M
 put-standard-spec =
@@ -54,7 +53,6 @@ put-standard-spec =
     put-requires
     product-requires
     put-turned-requires
-    add-put
     slice-aggregate-put-2
     put-requires-2
     same-length

@@ -2,6 +2,7 @@
 use mathlib.Core.Path.{_≡_}
 use Prim.Native.Nat.{_+_, _*_, _-_}
 use native.Mathlib.Omega.{arith}
+use lib.ListN.{length-take, length-drop}
 use borrow.Author.Needs.{needs}
 use Rattle.roll.proofs.block_at.Statement.{statement}
 use Rattle.roll.proofs.block_at.Tie as tie
@@ -25,7 +26,7 @@ returns : tie.Need-returns
 returns c =
     let i = c .before .args .i in
     let e : 512 * i + 512 - 512 * i ≡ 512 = omega arith in
-    rw e
+    (rw e, simp (length-take, length-drop) (omega arith))
 
 pub block-at-spec : {M : Type 1} → statement M
 block-at-spec = tie.close (tie.spec mul-from add-result sub-result part-result-start part-result-end returns)

@@ -32,7 +32,7 @@ returns : tie.Need-returns Inv-loop μ-loop
 returns c =
     record {
       within = omega arith;
-      same = λ h. rw (c .before .before .before .block-at .ensures, c .before .before .block-at2 .ensures) at (sym (c .before .same-drive .ensures) ∙ c .if1 .taken);
+      same = λ h. rw (c .before .before .before .block-at .ensures .0, c .before .before .block-at2 .ensures .0) at (sym (c .before .same-drive .ensures) ∙ c .if1 .taken);
       other = c .before .before .before .before .before .loop .inv .1;
     }
 
@@ -44,7 +44,7 @@ loop-less c = search needs
 
 loop-again : tie.Need-loop-again Inv-loop μ-loop
 loop-again c =
-    (search needs, below-more _ _ (c .before .before .before .before .before .loop .inv .1) (rw (c .before .before .before .block-at .ensures, c .before .before .block-at2 .ensures) at (sym (c .before .same-drive .ensures) ∙ c .if1 .left)))
+    (search needs, below-more _ _ (c .before .before .before .before .before .loop .inv .1) (rw (c .before .before .before .block-at .ensures .0, c .before .before .block-at2 .ensures .0) at (sym (c .before .same-drive .ensures) ∙ c .if1 .left)))
 
 returns-2 : tie.Need-returns-2 Inv-loop μ-loop
 returns-2 c =

@@ -2,6 +2,7 @@
 use mathlib.Core.Path.{_∙_, sym}
 use borrow.Author.Tests.{eq-eqb, ne-eqb}
 use Rattle.inquiry.specs.Inquiry.{sizeOf}
+use Rattle.pages.proofs.Laws.{length-standard, length-page80}
 use borrow.Author.Needs.{needs}
 use Rattle.inquiry.proofs.checks.size.Statement.{statement}
 use Rattle.inquiry.proofs.checks.size.Tie as tie
@@ -10,12 +11,12 @@ use Rattle.page83.proofs.size.Reads as size-reads′
 standard-asked-requires : tie.Need-standard-asked-requires
 standard-asked-requires c κs = search needs
 
-standard-size-requires : tie.Need-standard-size-requires
-standard-size-requires c κs = search needs
-
 returns : tie.Need-returns
 unfolding sizeOf
-returns c = rw (sym (c .before .before .standard-asked .ensures) ∙ c .before .if1 .taken, c .standard-size .ensures)
+returns c =
+    let a = c .before .before .before .before .before in
+    let e = sym (c .before .standard-asked .ensures) ∙ c .if1 .taken in
+    rw (e, length-standard (a .args .block .now) (a .pre .1 (rw e)))
 
 shared-slice-read-if2 : tie.Need-shared-slice-read-if2
 shared-slice-read-if2 c = search needs
@@ -34,18 +35,20 @@ returns-3 c = rw (sym (c .before .before .before .before .standard-asked .ensure
 shared-slice-read-if4 : tie.Need-shared-slice-read-if4
 shared-slice-read-if4 c = search needs
 
-serial-size-requires : tie.Need-serial-size-requires
-serial-size-requires c κs = search needs
-
 returns-4 : tie.Need-returns-4
 unfolding sizeOf
-returns-4 c = rw (sym (c .before .before .before .before .before .before .standard-asked .ensures) ∙ c .before .before .before .before .before .if1 .left, ne-eqb _ _ (c .before .before .before .if2 .left), eq-eqb _ _ (c .before .if4 .taken), c .serial-size .ensures)
+returns-4 c =
+    let a = c .before .before .before .before .before .before .before .before .before in
+    let e = sym (c .before .before .before .before .before .standard-asked .ensures) ∙ c .before .before .before .before .if1 .left in
+    let f = eq-eqb _ _ (c .if4 .taken) in
+    rw (e, ne-eqb _ _ (c .before .before .if2 .left), f, length-page80 (a .args .block .now) (a .pre .1 (rw (e, f))))
 
 shared-slice-read-if5 : tie.Need-shared-slice-read-if5
 shared-slice-read-if5 c = search needs
 
 size-requires-2 : tie.Need-size-requires-2
-size-requires-2 c κs = search needs
+size-requires-2 c κs =
+    c .before .before .before .before .before .before .before .before .before .before .before .pre .1 (rw (sym (c .before .before .before .before .before .before .before .standard-asked .ensures) ∙ c .before .before .before .before .before .before .if1 .left, ne-eqb _ _ (c .before .before .if4 .left), eq-eqb _ _ (c .if5 .taken)))
 
 returns-5 : tie.Need-returns-5
 unfolding sizeOf
@@ -63,14 +66,12 @@ size-spec =
     tie.close
     (tie.spec
     standard-asked-requires
-    standard-size-requires
     returns
     shared-slice-read-if2
     size-requires
     returns-2
     returns-3
     shared-slice-read-if4
-    serial-size-requires
     returns-4
     shared-slice-read-if5
     size-requires-2

@@ -1,4 +1,4 @@
--- `put_text`: word by word, each word's bytes exchanged, then the last byte that fits alone.
+-- `put_words`: word by word, each word's bytes exchanged, then the last byte that fits alone.
 use mathlib.Core.Path.{_≡_, _∙_, sym}
 use mathlib.Core.List.{map}
 use Prim.Native.Nat.{_-_, _%_}
@@ -8,8 +8,8 @@ use Rattle.room.proofs.Laws.{Writing, begin, turn, pair-turn, done}
 use Rattle.identify.specs.Text.{turned, shown}
 use Rattle.identify.proofs.Text.{length-text, word-first, word-second}
 use borrow.Author.Needs.{needs}
-use Rattle.identify.proofs.put_text.Statement.{statement}
-use Rattle.identify.proofs.put_text.Tie as tie
+use Rattle.identify.proofs.put_words.Statement.{statement}
+use Rattle.identify.proofs.put_words.Tie as tie
 
 abbrev Inv-loop : tie.InvT-loop
 Inv-loop room₀ at text spaced n i₀ room i = Writing room₀ at (map (shown spaced) (turned text)) n room i × (i % 2 ≡ 0)
@@ -17,13 +17,10 @@ Inv-loop room₀ at text spaced n i₀ room i = Writing room₀ at (map (shown s
 abbrev μ-loop : tie.MeasureT-loop
 μ-loop room₀ at text spaced n i₀ room i = n - i
 
-fit-requires : tie.Need-fit-requires Inv-loop μ-loop
-fit-requires c κs = search needs
-
 loop-holds : tie.Need-loop-holds Inv-loop μ-loop
 loop-holds c =
-    let a = c .before .before .before .args in
-    (begin _ _ _ (length-text (shown (a .spaced)) (a .text .now)) (c .fit .ensures), omega arith)
+    let a = c .before .before .args in
+    (begin _ _ _ (length-text (shown (a .spaced)) (a .text .now)) (c .before .before .pre), omega arith)
 
 add-loop : tie.Need-add-loop Inv-loop μ-loop
 add-loop c = search needs
@@ -67,7 +64,7 @@ loop-less c = search needs
 loop-again : tie.Need-loop-again Inv-loop μ-loop
 loop-again c =
     let l = c .before .before .before .before .before .loop in
-    let a = c .before .before .before .before .before .before .before .before .before .args in
+    let a = c .before .before .before .before .before .before .before .before .args in
     let b = length-text (shown (a .spaced)) (a .text .now) in (
       pair-turn _ _ (l .inv .0) (c .before .before .before .before .loop-test .taken) (c .before .before .shown .ensures ∙ sym (word-first (shown (a .spaced)) (a .text .now) (l .i) (l .inv .1) (omega arith)))
           (c .shown2 .ensures ∙ sym (word-second (shown (a .spaced)) (a .text .now) (l .i) (l .inv .1) (omega arith))),
@@ -97,13 +94,12 @@ returns-2 : tie.Need-returns-2 Inv-loop μ-loop
 returns-2 c =
     done (c .before .before .loop .inv .0) (c .if1 .left)
 
-pub put-text-spec : {M : Type 1} → statement M
-put-text-spec =
+pub put-words-spec : {M : Type 1} → statement M
+put-words-spec =
     tie.close
     (tie.spec
     Inv-loop
     μ-loop
-    fit-requires
     loop-holds
     add-loop
     add-shown

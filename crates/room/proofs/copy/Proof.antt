@@ -1,11 +1,10 @@
--- `put`: before turn i the first i bytes stand in the room, and what is left to write takes the room to where it is to be.
+-- `copy`: before turn i the first i bytes stand in the room, and what is left to write takes the room to where it is to be.
 use mathlib.Core.Path.{refl}
 use Prim.Native.Nat.{_-_}
 use native.Mathlib.Omega.{arith}
-use borrow.Author.Needs.{needs}
 use Rattle.room.proofs.Laws.{Writing, begin, turn, done}
-use Rattle.room.proofs.put.Statement.{statement}
-use Rattle.room.proofs.put.Tie as tie
+use Rattle.room.proofs.copy.Statement.{statement}
+use Rattle.room.proofs.copy.Tie as tie
 
 abbrev Inv-loop : tie.InvT-loop
 Inv-loop room₀ at bytes n i₀ room i = Writing room₀ at bytes n room i
@@ -13,11 +12,8 @@ Inv-loop room₀ at bytes n i₀ room i = Writing room₀ at bytes n room i
 abbrev μ-loop : tie.MeasureT-loop
 μ-loop room₀ at bytes n i₀ room i = n - i
 
-fit-requires : tie.Need-fit-requires Inv-loop μ-loop
-fit-requires c κs = search needs
-
 loop-holds : tie.Need-loop-holds Inv-loop μ-loop
-loop-holds c = begin _ _ _ refl (c .fit .ensures)
+loop-holds c = begin _ _ _ refl (c .pre)
 
 shared-slice-read-room : tie.Need-shared-slice-read-room Inv-loop μ-loop
 shared-slice-read-room c = omega arith
@@ -43,13 +39,12 @@ same-length c = omega arith
 returns : tie.Need-returns Inv-loop μ-loop
 returns c = done (c .before .loop .inv) (c .loop-test .left)
 
-pub put-spec : {M : Type 1} → statement M
-put-spec =
+pub copy-spec : {M : Type 1} → statement M
+copy-spec =
     tie.close
     (tie.spec
     Inv-loop
     μ-loop
-    fit-requires
     loop-holds
     shared-slice-read-room
     add-room
