@@ -7,6 +7,8 @@ use lib.Dec.{eqb, ltb}
 use lib.ListN.{length, take, drop}
 use borrow.Author.Tests.{eq-eqb, ne-eqb, eqb-true, ltb-false, not-false}
 use Rattle.rules.proofs.Checks.{silent, neither, first-of-two}
+use Rattle.sense.specs.Refusal.{Roomy}
+use Rattle.sense.proofs.Sense.{roomy-unless}
 use Rattle.pages.specs.Page.{page00}
 use Rattle.pages.proofs.Laws.{length-page89}
 use Rattle.packet.specs.Packet.{unusable}
@@ -42,6 +44,12 @@ sized block signature texts sense e =
 pub length-page : (q : Request) → length (q .texts) ≡ 28 → length (q .signature) ≡ 20 → length (page q) ≡ sizeOf (isPacket q) (q .command) (q .block) (q .reply)
 unfolding page sizeOf page00
 length-page q ht hs = simp (length-cond, length-page89 (isPacket q) (q .texts) (q .signature) (q .block) ht hs)
+
+-- A refusal that writes has room for it.
+pub roomy : (q : Request) (sense : ℕ) {number : ℕ} → number ≡ earlyRefusal q sense → Roomy number sense
+unfolding earlyRefusal
+roomy q sense e =
+    roomy-unless (wrongSize (q .block) (q .signature) (q .texts) sense) _ (λ w. sized (q .block) (q .signature) (q .texts) sense w .enough) e
 
 -- The refusal, by the checks that do not look at the room and the one that does.
 module _ (q : Request) (room sense : ℕ) where

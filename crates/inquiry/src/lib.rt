@@ -4,8 +4,9 @@ mod checks;
 
 ghost use mathlib.Core.Path.{_≡_};
 ghost use mathlib.Core.List.{List};
+ghost use lib.ListN.{length};
 ghost use Rattle.room.specs.Room.{Wrote};
-ghost use Rattle.sense.specs.Refusal.{rowOf, refusedSense};
+ghost use Rattle.sense.specs.Refusal.{rowOf, refusedSense, Roomy};
 ghost use Rattle.inquiry.specs.Inquiry.{Servable, request, outcome, inquiry as Inquiry·inquiry, page as Inquiry·page, part as Inquiry·part};
 
 // What comes back: the refusal's number or 0, the status, which slice is shown (0 the drive's reply, 1 the room), and how many
@@ -56,6 +57,7 @@ fn put_page(
 
 // A refusal: an empty part of the room, and the sense bytes of its row.
 fn refuse(sense: &mut [u8], number: u8) -> Answer
+    requires { ⌜ Roomy number (length (now sense)) ⌝ }
     ensures answer { λ r. ⌜ r ≡ record { number = number; status = rowOf number .status; shown = 1; count = 0 } ⌝ }
     ensures sense { λ _. ⌜ now (sense .exit) ≡ refusedSense number (now (sense .entry)) ⌝ }
 {

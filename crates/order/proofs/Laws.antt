@@ -1,6 +1,6 @@
 -- Laws that the functions' proofs share.
 use mathlib.Core.Path.{_≡_, refl, sym, _∙_}
-use mathlib.Core.Bool.{Bool, true, false, cond}
+use mathlib.Core.Bool.{Bool, true, false, cond, not}
 use mathlib.Core.List.{List}
 use Prim.Native.Nat.{ℕ, _≤_}
 use native.Mathlib.Nat.{le-trans}
@@ -8,6 +8,8 @@ use native.Mathlib.Omega.{arith}
 use lib.Dec.{eqb, ltb}
 use lib.ListN.{length}
 use borrow.Author.Tests.{eqb-true, ltb-false, not-false, eq-eqb, ne-eqb}
+use Rattle.sense.specs.Refusal.{Roomy}
+use Rattle.sense.proofs.Sense.{roomy-unless}
 use Rattle.rules.proofs.Checks.{Silent, silent, neither}
 use Rattle.command.specs.Command.{long, size, Whole}
 use Rattle.order.specs.Check.{wrongSize, checksOf, refusalOf}
@@ -39,9 +41,11 @@ whole {command} e h =
       sixteen = λ t. rw t at l;
     }
 
--- Where the lent pieces have their sizes, there are 11 registers.
-pub sized : (registers sense : ℕ) → wrongSize registers sense ≡ false → registers ≡ 11
-sized registers sense e = eqb-true _ _ (not-false _ (neither _ (ltb sense 22) e .0))
+-- Where the lent pieces have their sizes, there are 11 registers, and 22 bytes for sense data.
+pub sized : (registers sense : ℕ) → wrongSize registers sense ≡ false → (registers ≡ 11) × (22 ≤ sense)
+sized registers sense e =
+    let both = neither (not (eqb registers 11)) (ltb sense 22) e in
+    (eqb-true _ _ (not-false _ (both .0)), ltb-false _ _ (both .1))
 
 -- A command that nothing refuses came with all its registers, and is whole.
 module _ (pending : Bool) (command : List ℕ) (registers declared sense : ℕ) (e : refusalOf pending command registers declared sense ≡ 0) where
@@ -49,8 +53,13 @@ module _ (pending : Bool) (command : List ℕ) (registers declared sense : ℕ) 
   unfolding refusalOf
   quiet = silent (checksOf pending command registers declared sense) refl e
 
-  pub taken-registers : registers ≡ 11
-  taken-registers = sized registers sense (quiet .0)
+  pub taken-sized : (registers ≡ 11) × (22 ≤ sense)
+  taken-sized = sized registers sense (quiet .0)
 
   pub taken-whole : Whole command
   taken-whole = whole refl (quiet .1 .1 .1 .0)
+
+-- A refusal of a command that writes has room for it.
+pub roomy : (pending : Bool) (command : List ℕ) (registers declared sense : ℕ) {number : ℕ} → number ≡ refusalOf pending command registers declared sense → Roomy number sense
+unfolding refusalOf
+roomy pending command registers declared sense e = roomy-unless (wrongSize registers sense) _ (λ w. sized registers sense w .1) e

@@ -1,7 +1,7 @@
 -- The checks of a pass-through command, as the table has them. Of the lent registers and the sense room only the sizes are asked,
 -- and of the record whether an order is pending.
 use mathlib.Core.Bool.{Bool, _&&_, _||_, not}
-use mathlib.Core.List.{List, [], _∷_}
+use mathlib.Core.List.{List, [], _∷_, _++_}
 use Prim.Native.Nat.{ℕ}
 use lib.Dec.{eqb, ltb}
 use lib.ListN.{length, getD}
@@ -38,6 +38,22 @@ noLength p bytes = withData p && eqb bytes 0
 abbrev pub tooLong : ℕ → ℕ → ℕ → Bool
 tooLong p bytes declared = withData p && ltb declared bytes
 
+-- 9 to 12, which look at fields of the command alone, and at whether an order is pending.
+abbrev pub fieldChecks : Bool → ℕ → ℕ → Bool → List Check
+fieldChecks pending p tLength dir =
+    (wrongProtocol p ⇒ 9)
+    ∷ (pending && not (eqb p 15) ⇒ 10)
+    ∷ (wrongLength p tLength ⇒ 11)
+    ∷ (wrongDirection p dir ⇒ 12)
+    ∷ []
+
+-- 13 and 14, which look at the length.
+abbrev pub lengthChecks : ℕ → ℕ → ℕ → List Check
+lengthChecks p bytes declared =
+    (noLength p bytes ⇒ 13)
+    ∷ (tooLong p bytes declared ⇒ 14)
+    ∷ []
+
 -- "Checks run in this order, the first that applies answers: 1; empty command 2; opcode 3; short command 2; then 4 to 16
 -- upward, those that concern the command."
 abbrev pub checksOf : Bool → List ℕ → ℕ → ℕ → ℕ → List Check
@@ -47,13 +63,8 @@ checksOf pending command registers declared sense =
     ∷ (wrongOpcode command ⇒ 3)
     ∷ (ltb (length command) (size command) ⇒ 2)
     ∷ (naca command ⇒ 4)
-    ∷ (wrongProtocol (protocol command) ⇒ 9)
-    ∷ (pending && not (eqb (protocol command) 15) ⇒ 10)
-    ∷ (wrongLength (protocol command) (tLength command) ⇒ 11)
-    ∷ (wrongDirection (protocol command) (tDir command) ⇒ 12)
-    ∷ (noLength (protocol command) (lengthOf command declared) ⇒ 13)
-    ∷ (tooLong (protocol command) (lengthOf command declared) declared ⇒ 14)
-    ∷ []
+    ∷ fieldChecks pending (protocol command) (tLength command) (tDir command)
+    ++ lengthChecks (protocol command) (lengthOf command declared) declared
 
 unfoldable pub refusalOf : Bool → List ℕ → ℕ → ℕ → ℕ → ℕ
 refusalOf pending command registers declared sense = first (checksOf pending command registers declared sense)

@@ -10,7 +10,7 @@ ghost use lib.ListN.{length};
 ghost use Rattle.command.specs.Command.{Whole, size, protocol, tLength, tDir};
 ghost use Rattle.command.specs.Length.{lengthOf};
 ghost use Rattle.rules.specs.Checks.{_⇒_, first};
-ghost use Rattle.order.specs.Check.{wrongSize, wrongOpcode, wrongProtocol, wrongLength, wrongDirection, noLength, tooLong, refusalOf};
+ghost use Rattle.order.specs.Check.{wrongSize, wrongOpcode, wrongProtocol, wrongLength, wrongDirection, fieldChecks, lengthChecks, refusalOf};
 
 // 1: a lent piece has not its size.
 pub fn wrong_size(registers: usize, sense: usize) -> bool
@@ -39,55 +39,56 @@ fn short(command: &[u8]) -> bool
 }
 
 // 9: a protocol that is not served.
-fn wrong_protocol(command: &[u8]) -> bool
-    requires { ⌜ Whole (now command) ⌝ }
-    ensures { λ r. ⌜ r ≡ wrongProtocol (protocol (now (command .entry))) ⌝ }
+fn wrong_protocol(protocol: u8) -> bool
+    ensures { λ r. ⌜ r ≡ wrongProtocol protocol ⌝ }
 {
-    let protocol = command::protocol(command);
     (protocol == 2) | (protocol == 7) | (protocol == 12) | (protocol == 13) | (protocol == 14)
 }
 
-// 10: an order is pending, and the protocol is not 15.
-fn busy(pending: bool, command: &[u8]) -> bool
-    requires { ⌜ Whole (now command) ⌝ }
-    ensures { λ r. ⌜ r ≡ pending && not (eqb (protocol (now (command .entry))) 15) ⌝ }
-{
-    pending & (command::protocol(command) != 15)
-}
-
 // 11: T_LENGTH does not fit the protocol.
-fn wrong_length(command: &[u8]) -> bool
-    requires { ⌜ Whole (now command) ⌝ }
-    ensures { λ r. ⌜ r ≡ wrongLength (protocol (now (command .entry))) (tLength (now (command .entry))) ⌝ }
+fn wrong_length(protocol: u8, t_length: u8) -> bool
+    ensures { λ r. ⌜ r ≡ wrongLength protocol «t_length» ⌝ }
 {
-    let protocol = command::protocol(command);
-    let t_length = command::t_length(command);
     (read::without_data(protocol) & (t_length != 0)) | (read::with_data(protocol) & (t_length == 0))
 }
 
 // 12: T_DIR does not fit the protocol.
-fn wrong_direction(command: &[u8]) -> bool
-    requires { ⌜ Whole (now command) ⌝ }
-    ensures { λ r. ⌜ r ≡ wrongDirection (protocol (now (command .entry))) (tDir (now (command .entry))) ⌝ }
+fn wrong_direction(protocol: u8, from: bool) -> bool
+    ensures { λ r. ⌜ r ≡ wrongDirection protocol from ⌝ }
 {
-    let protocol = command::protocol(command);
-    let from = command::t_dir(command);
     (read::from_drive(protocol) & !from) | (read::to_drive(protocol) & from)
 }
 
-// 13 and 14: a data protocol with length 0, or with one above the declared length.
-fn length_fault(command: &[u8], declared: u32) -> u8
-    requires { ⌜ Whole (now command) ⌝ }
-    ensures { λ r. ⌜ r ≡ first ((noLength (protocol (now (command .entry))) (lengthOf (now (command .entry)) declared) ⇒ 13) ∷ (tooLong (protocol (now (command .entry))) (lengthOf (now (command .entry)) declared) declared ⇒ 14) ∷ []) ⌝ }
+// 9 to 12, which look at fields of the command alone, and at whether an order is pending.
+fn field_fault(pending: bool, protocol: u8, t_length: u8, from: bool) -> u8
+    ensures { λ r. ⌜ r ≡ first (fieldChecks pending protocol «t_length» from) ⌝ }
 {
-    if !read::with_data(command::protocol(command)) {
+    if wrong_protocol(protocol) {
+        return 9;
+    }
+    if pending & (protocol != 15) {
+        return 10;
+    }
+    if wrong_length(protocol, t_length) {
+        return 11;
+    }
+    if wrong_direction(protocol, from) {
+        return 12;
+    }
+    0
+}
+
+// 13 and 14: a data protocol with length 0, or with one above the declared length.
+fn length_fault(protocol: u8, bytes: u32, declared: u32) -> u8
+    ensures { λ r. ⌜ r ≡ first (lengthChecks protocol bytes declared) ⌝ }
+{
+    if !read::with_data(protocol) {
         return 0;
     }
-    let length = length::in_bytes(command, declared);
-    if length.0 == 0 {
+    if bytes == 0 {
         return 13;
     }
-    if declared < length.0 {
+    if declared < bytes {
         return 14;
     }
     0
@@ -112,17 +113,12 @@ pub fn fault(pending: bool, command: &[u8], registers: usize, declared: u32, sen
     if command::naca(command) {
         return 4;
     }
-    if wrong_protocol(command) {
-        return 9;
+    let protocol = command::protocol(command);
+    let t_length = command::t_length(command);
+    let number = field_fault(pending, protocol, t_length, command::t_dir(command));
+    if number != 0 {
+        return number;
     }
-    if busy(pending, command) {
-        return 10;
-    }
-    if wrong_length(command) {
-        return 11;
-    }
-    if wrong_direction(command) {
-        return 12;
-    }
-    length_fault(command, declared)
+    let length = length::in_bytes(command, declared);
+    length_fault(protocol, length.0, declared)
 }

@@ -3,6 +3,7 @@ use crate::Pending;
 use order::Order;
 use order::check;
 ghost use mathlib.Core.Path.{_≡_};
+ghost use Prim.Native.Nat.{_≤_};
 ghost use lib.ListN.{length};
 ghost use Rattle.pending.specs.Complete.{refusalOf, failed as Complete·failed, endStatus, endSense};
 
@@ -29,7 +30,7 @@ fn failed(registers: &[u8]) -> bool
 
 // Writes the sense data of an order's end, where it has any, and gives its status.
 pub fn tell(order: Order, registers: &[u8], sense: &mut [u8]) -> u8
-    requires { ⌜ length (now registers) ≡ 11 ⌝ }
+    requires { ⌜ (length (now registers) ≡ 11) × (22 ≤ length (now sense)) ⌝ }
     ensures status { λ r. ⌜ r ≡ endStatus order (now (registers .entry)) ⌝ }
     ensures sense { λ _. ⌜ now (sense .exit) ≡ endSense order (now (registers .entry)) (now (sense .entry)) ⌝ }
 {

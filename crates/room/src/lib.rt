@@ -20,7 +20,7 @@ pub fn fit(room: usize, at: usize, n: usize) -> usize
 }
 
 // Writes the first n bytes of a slice from a place on, where n of them fit.
-fn copy(room: &mut [u8], at: usize, bytes: &[u8], n: usize)
+pub fn copy(room: &mut [u8], at: usize, bytes: &[u8], n: usize)
     requires { ⌜ n ≡ fitting (length (now room)) at (length (now bytes)) ⌝ }
     ensures { λ _. ⌜ Wrote (now (room .entry)) at (now (bytes .entry)) (now (room .exit)) ⌝ }
 {

@@ -4,7 +4,7 @@ use mathlib.Core.Bool.{Bool, true, false, cond, _&&_, _||_, not, and-eq-true-iff
 use mathlib.Core.List.{List, [], _∷_, _++_}
 use Prim.Native.Nat.{ℕ}
 use lib.Dec.{eqb}
-use borrow.Author.Tests.{eq-eqb, not-true}
+use borrow.Author.Tests.{eq-eqb, ne-eqb, not-true}
 use Rattle.rules.specs.Checks.{Check, first}
 
 -- No check of a list applies.
@@ -44,3 +44,9 @@ first-of-two (check ∷ a) b n =
     step : (t : Bool) (k : ℕ) → not (eqb k 0) ≡ true → first (a ++ b) ≡ cond (eqb (first a) 0) (first b) (first a) → cond t k (first (a ++ b)) ≡ cond (eqb (cond t k (first a)) 0) (first b) (cond t k (first a))
     step true k h r = rw (not-true (eqb k 0) h)
     step false k h r = r
+
+pub in-first : (a b : List Check) → numbered a ≡ true → {r : ℕ} → r ≡ first a → (r ≡ 0 → ⊥) → r ≡ first (a ++ b)
+in-first a b n {r} e h = e ∙ sym (rw (first-of-two a b n, ne-eqb (first a) 0 (λ z. h (e ∙ z))))
+
+pub in-second : (a b : List Check) → numbered a ≡ true → {r s : ℕ} → r ≡ first a → r ≡ 0 → s ≡ first b → s ≡ first (a ++ b)
+in-second a b n {r} {s} e z f = f ∙ sym (rw (first-of-two a b n, eq-eqb (first a) 0 (sym e ∙ z)))

@@ -1,7 +1,8 @@
 -- The table of refusals: what each number answers.
+use mathlib.Core.Path.{_≡_}
 use mathlib.Core.Bool.{cond}
 use mathlib.Core.List.{List, [], _∷_, map}
-use Prim.Native.Nat.{ℕ}
+use Prim.Native.Nat.{ℕ, _≤_}
 use lib.Dec.{eqb}
 use lib.ListN.{getD}
 use Rattle.room.specs.Room.{written}
@@ -87,3 +88,8 @@ unfoldable pub refusedSense : ℕ → List ℕ → List ℕ
 refusedSense number room =
     cond (eqb (rowOf number .key) 0x00) room
     (written room 0 (senseData (rowOf number .key) (rowOf number .asc) (rowOf number .ascq) nothing))
+
+-- "sense room of at least 22 bytes": a refusal that writes has it, since a shorter one is refusal 1. For private functions; no
+-- rule names it.
+abbrev pub Roomy : ℕ → ℕ → Type 0
+Roomy number sense = (rowOf number .key ≡ 0x00 → ⊥) → 22 ≤ sense

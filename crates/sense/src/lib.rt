@@ -7,7 +7,7 @@ ghost use Prim.Native.Nat.{_<_, _≤_};
 ghost use lib.ListN.{length};
 ghost use Rattle.room.specs.Room.{Wrote};
 ghost use Rattle.sense.specs.Sense.{senseData, nothing, registers as told, upper as Sense·upper};
-ghost use Rattle.sense.specs.Refusal.{rowOf, threeBytes, refusedSense};
+ghost use Rattle.sense.specs.Refusal.{rowOf, threeBytes, refusedSense, Roomy};
 
 pub const GOOD: u8 = 0x00;
 
@@ -40,10 +40,11 @@ const TABLE: [[u8; 3]; 17] = [
 
 // The eight bytes of sense data that tell key, ASC and ASCQ alone.
 fn put_code(sense: &mut [u8], key: u8, asc: u8, ascq: u8)
+    requires { ⌜ 8 ≤ length (now sense) ⌝ }
     ensures { λ _. ⌜ Wrote (now (sense .entry)) 0 (senseData key asc ascq nothing) (now (sense .exit)) ⌝ }
 {
     let bytes = [0x72u8, key, asc, ascq, 0x00u8, 0x00u8, 0x00u8, 0x00u8];
-    room::put(sense, 0, &bytes);
+    room::copy(sense, 0, &bytes, 8);
 }
 
 // Key, ASC and ASCQ of a refusal, and zeros for a number that has no row.
@@ -58,6 +59,7 @@ fn code(number: u8) -> [u8; 3]
 
 // What a refusal answers: it writes the sense bytes of its row, or nothing, and gives the row's status.
 pub fn refuse(sense: &mut [u8], number: u8) -> u8
+    requires { ⌜ Roomy number (length (now sense)) ⌝ }
     ensures status { λ r. ⌜ r ≡ rowOf number .status ⌝ }
     ensures sense { λ _. ⌜ now (sense .exit) ≡ refusedSense number (now (sense .entry)) ⌝ }
 {
@@ -84,7 +86,7 @@ fn upper(extend: bool, byte: u8) -> u8
 
 // Writes the sense data that tell the drive's registers beside key, ASC and ASCQ.
 pub fn report(sense: &mut [u8], key: u8, asc: u8, ascq: u8, extend: bool, registers: &[u8])
-    requires { ⌜ length (now registers) ≡ 11 ⌝ }
+    requires { ⌜ (length (now registers) ≡ 11) × (22 ≤ length (now sense)) ⌝ }
     ensures { λ _. ⌜ Wrote (now (sense .entry)) 0 (senseData key asc ascq (told extend (now (registers .entry)))) (now (sense .exit)) ⌝ }
 {
     let bytes = [
@@ -112,5 +114,5 @@ pub fn report(sense: &mut [u8], key: u8, asc: u8, ascq: u8, extend: bool, regist
         registers[9],
         registers[10],
     ];
-    room::put(sense, 0, &bytes);
+    room::copy(sense, 0, &bytes, 22);
 }

@@ -1,5 +1,5 @@
 -- `inquiry`: the checks, then the drive's own reply or the page, cut to n.
-use mathlib.Core.Path.{_≡_, _∙_, sym}
+use mathlib.Core.Path.{_≡_, refl, _∙_, sym}
 use mathlib.Core.Bool.{false, cond, not, _&&_}
 use lib.Dec.{ltb}
 use native.Mathlib.Omega.{arith}
@@ -7,8 +7,9 @@ use lib.ListN.{length}
 use lib.Seq.{length-take-le}
 use borrow.Author.Tests.{eq-eqb, ne-eqb, lt-ltb, le-ltb}
 use Rattle.room.proofs.Laws.{cut}
+use Rattle.sense.specs.Refusal.{rowOf}
 use Rattle.inquiry.specs.Inquiry.{Request, request, isPacket, passesThrough, page, toWrite, refusalOf, earlyRefusal, inquiry}
-use Rattle.inquiry.proofs.Laws.{Granted, granted, refused-early, refused-late, length-page}
+use Rattle.inquiry.proofs.Laws.{Granted, granted, refused-early, refused-late, length-page, roomy}
 use borrow.Author.Needs.{needs}
 use Rattle.inquiry.proofs.inquiry.Statement.{statement}
 use Rattle.inquiry.proofs.inquiry.Tie as tie
@@ -43,7 +44,7 @@ fault-requires : tie.Need-fault-requires
 fault-requires c κs = search needs
 
 refuse-requires : tie.Need-refuse-requires
-refuse-requires c κs = search needs
+refuse-requires c κs = roomy _ _ (c .before .before .fault .ensures)
 
 same-length : tie.Need-same-length
 same-length c = search needs
@@ -81,7 +82,8 @@ lesser-requires-2 : tie.Need-lesser-requires-2
 lesser-requires-2 c κs = search needs
 
 refuse-requires-2 : tie.Need-refuse-requires-2
-refuse-requires-2 c κs = search needs
+unfolding rowOf
+refuse-requires-2 c κs = λ h. absurd (h refl)
 
 same-length-2 : tie.Need-same-length-2
 same-length-2 c = search needs

@@ -4,18 +4,18 @@ use borrow.Author.Needs.{needs}
 use Rattle.sense.proofs.put_code.Statement.{statement}
 use Rattle.sense.proofs.put_code.Tie as tie
 
-slice-aggregate-put : tie.Need-slice-aggregate-put
-slice-aggregate-put c = search needs
+slice-aggregate-copy : tie.Need-slice-aggregate-copy
+slice-aggregate-copy c = search needs
 
-put-requires : tie.Need-put-requires
-put-requires c κs = search needs
+copy-requires : tie.Need-copy-requires
+copy-requires c κs = search needs
 
 same-length : tie.Need-same-length
 same-length c = search needs
 
 returns : tie.Need-returns
 unfolding senseData
-returns c = c .before .before .put .ensures
+returns c = c .before .before .copy .ensures
 
 pub put-code-spec : {M : Type 1} → statement M
-put-code-spec = tie.close (tie.spec slice-aggregate-put put-requires same-length returns)
+put-code-spec = tie.close (tie.spec slice-aggregate-copy copy-requires same-length returns)

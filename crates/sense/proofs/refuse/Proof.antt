@@ -2,6 +2,7 @@
 use mathlib.Core.Path.{_≡_, _∙_, sym, ap}
 use mathlib.Core.List.{List}
 use Prim.Native.Nat.{ℕ}
+use native.Mathlib.Omega.{arith}
 use lib.ListN.{getD}
 use borrow.Author.Tests.{eq-eqb, ne-eqb}
 use Rattle.sense.specs.Refusal.{rowOf}
@@ -26,7 +27,10 @@ array-read-put-code-3 : tie.Need-array-read-put-code-3
 array-read-put-code-3 c = search needs
 
 put-code-requires : tie.Need-put-code-requires
-put-code-requires c κs = search needs
+put-code-requires c κs =
+    let a = c .before .before .before .before in
+    let key : getD (c .before .before .code .result) 0 0 ≡ rowOf (a .args .number) .key = ap (λ (l : List ℕ). getD l 0 0) (c .before .before .code .ensures) in
+    omega (arith, a .pre (λ z. c .before .if1 .taken (key ∙ z)))
 
 same-length : tie.Need-same-length
 same-length c = search needs

@@ -52,11 +52,11 @@ shared-slice-read-t32 c = search needs
 shared-slice-read-t34 : tie.Need-shared-slice-read-t34
 shared-slice-read-t34 c = search needs
 
-slice-aggregate-put : tie.Need-slice-aggregate-put
-slice-aggregate-put c = search needs
+slice-aggregate-copy : tie.Need-slice-aggregate-copy
+slice-aggregate-copy c = search needs
 
-put-requires : tie.Need-put-requires
-put-requires c κs = search needs
+copy-requires : tie.Need-copy-requires
+copy-requires c κs = search needs
 
 same-length : tie.Need-same-length
 same-length c = search needs
@@ -69,7 +69,7 @@ returns c =
     let w3 = w4 .before .before .before in
     let w2 = w3 .before .before .before in
     let w1 = w2 .before .before .before in
-    rw (w1 .upper .ensures, w2 .upper2 .ensures, w3 .upper3 .ensures, w4 .upper4 .ensures, w5 .upper5 .ensures) at (c .before .before .put .ensures)
+    rw (w1 .upper .ensures, w2 .upper2 .ensures, w3 .upper3 .ensures, w4 .upper4 .ensures, w5 .upper5 .ensures) at (c .before .before .copy .ensures)
 
 pub report-spec : {M : Type 1} → statement M
 report-spec =
@@ -91,7 +91,7 @@ report-spec =
     shared-slice-read-t30
     shared-slice-read-t32
     shared-slice-read-t34
-    slice-aggregate-put
-    put-requires
+    slice-aggregate-copy
+    copy-requires
     same-length
     returns)

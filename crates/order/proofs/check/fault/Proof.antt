@@ -1,6 +1,14 @@
 -- `fault`: each check answers where it is the first that applies.
-use Rattle.order.specs.Check.{refusalOf}
-use Rattle.order.proofs.Laws.{checks, whole}
+use mathlib.Core.Path.{_≡_, refl}
+use mathlib.Core.List.{List, _++_}
+use Prim.Native.Nat.{ℕ}
+use borrow.Author.Tests.{ne-eqb}
+use Rattle.rules.specs.Checks.{Check, first}
+use Rattle.rules.proofs.Checks.{in-first, in-second}
+use Rattle.command.specs.Command.{protocol, tLength, tDir}
+use Rattle.command.specs.Length.{lengthOf}
+use Rattle.order.specs.Check.{fieldChecks, lengthChecks, refusalOf}
+use Rattle.order.proofs.Laws.{checks, found, whole}
 use borrow.Author.Needs.{needs}
 use Rattle.order.proofs.check.fault.Statement.{statement}
 use Rattle.order.proofs.check.fault.Tie as tie
@@ -37,40 +45,47 @@ returns-5 : tie.Need-returns-5
 unfolding refusalOf
 returns-5 c = search checks depth 14
 
-wrong-protocol-requires : tie.Need-wrong-protocol-requires
-wrong-protocol-requires c κs = naca-requires (c .before .before) κs
+protocol-requires : tie.Need-protocol-requires
+protocol-requires c κs = naca-requires (c .before .before) κs
+
+t-length-requires : tie.Need-t-length-requires
+t-length-requires c κs = protocol-requires (c .before) κs
+
+t-dir-requires : tie.Need-t-dir-requires
+t-dir-requires c κs = t-length-requires (c .before) κs
+
+field-fault-requires : tie.Need-field-fault-requires
+field-fault-requires c κs = search needs
+
+-- Past the first five checks: what the others answer is the answer.
+abbrev fields : tie.Else5 → List Check
+fields c = let a = c .before .before .before .before .before .before .before .before .before .before .args in fieldChecks (a .pending) (protocol (a .command .now)) (tLength (a .command .now)) (tDir (a .command .now))
+
+abbrev lengths : tie.Else5 → List Check
+lengths c = let a = c .before .before .before .before .before .before .before .before .before .before .args in lengthChecks (protocol (a .command .now)) (lengthOf (a .command .now) (a .declared)) (a .declared)
+
+go-on : (c : tie.Else5) (r : ℕ) → r ≡ first (fields c ++ lengths c) → let a = c .before .before .before .before .before .before .before .before .before .before .args in r ≡ refusalOf (a .pending) (a .command .now) (a .registers) (a .declared) (a .sense)
+unfolding refusalOf
+go-on c r h = rw (found (c .before .before .before .before .before .before .before .before .wrong-size .ensures) (c .before .before .before .before .before .before .before .if1 .left), ne-eqb _ _ (c .before .before .before .before .before .before .if2 .left), found (c .before .before .before .before .before .wrong-opcode .ensures) (c .before .before .before .before .if3 .left), found (c .before .before .before .short .ensures) (c .before .before .if4 .left), found (c .before .naca .ensures) (c .if5 .left)) h
+
+by-fields : (c : tie.After-field-fault) → c .field-fault .result ≡ first (fields (c .before .before .before .before))
+by-fields c = rw (c .before .before .before .protocol .ensures, c .before .before .t-length .ensures, c .before .t-dir .ensures) at (c .field-fault .ensures)
 
 returns-6 : tie.Need-returns-6
-unfolding refusalOf
-returns-6 c = search checks depth 14
+returns-6 c =
+    let e = c .before .before .before .before .before in
+    go-on e _ (in-first (fields e) (lengths e) refl (by-fields (c .before)) (c .if6 .taken))
 
-busy-requires : tie.Need-busy-requires
-busy-requires c κs = wrong-protocol-requires (c .before .before) κs
-
-returns-7 : tie.Need-returns-7
-unfolding refusalOf
-returns-7 c = search checks depth 14
-
-wrong-length-requires : tie.Need-wrong-length-requires
-wrong-length-requires c κs = busy-requires (c .before .before) κs
-
-returns-8 : tie.Need-returns-8
-unfolding refusalOf
-returns-8 c = search checks depth 14
-
-wrong-direction-requires : tie.Need-wrong-direction-requires
-wrong-direction-requires c κs = wrong-length-requires (c .before .before) κs
-
-returns-9 : tie.Need-returns-9
-unfolding refusalOf
-returns-9 c = search checks depth 14
+in-bytes-requires : tie.Need-in-bytes-requires
+in-bytes-requires c κs = t-dir-requires (c .before .before .before) κs
 
 length-fault-requires : tie.Need-length-fault-requires
-length-fault-requires c κs = wrong-direction-requires (c .before .before) κs
+length-fault-requires c κs = search needs
 
-returns-10 : tie.Need-returns-10
-unfolding refusalOf
-returns-10 c = search checks depth 14
+returns-7 : tie.Need-returns-7
+returns-7 c =
+    let e = c .before .before .before .before .before .before .before in
+    go-on e _ (in-second (fields e) (lengths e) refl (by-fields (c .before .before .before)) (c .before .before .if6 .left) (rw (c .before .before .before .before .before .before .protocol .ensures, c .before .in-bytes .ensures) at (c .length-fault .ensures)))
 
 pub fault-spec : {M : Type 1} → statement M
 fault-spec =
@@ -85,13 +100,11 @@ fault-spec =
     returns-4
     naca-requires
     returns-5
-    wrong-protocol-requires
+    protocol-requires
+    t-length-requires
+    t-dir-requires
+    field-fault-requires
     returns-6
-    busy-requires
-    returns-7
-    wrong-length-requires
-    returns-8
-    wrong-direction-requires
-    returns-9
+    in-bytes-requires
     length-fault-requires
-    returns-10)
+    returns-7)

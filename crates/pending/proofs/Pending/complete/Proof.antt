@@ -2,7 +2,7 @@
 use mathlib.Core.Path.{_∙_, sym}
 use borrow.Author.Tests.{eq-eqb, ne-eqb}
 use Rattle.pending.specs.Complete.{complete}
-use Rattle.pending.proofs.Laws.{ended-registers}
+use Rattle.pending.proofs.Laws.{ended-sized, end-roomy}
 use borrow.Author.Needs.{needs}
 use Rattle.pending.proofs.Pending.complete.Statement.{statement}
 use Rattle.pending.proofs.Pending.complete.Tie as tie
@@ -14,7 +14,7 @@ fault-requires : tie.Need-fault-requires
 fault-requires c κs = search needs
 
 refuse-requires : tie.Need-refuse-requires
-refuse-requires c κs = search needs
+refuse-requires c κs = end-roomy _ _ _ (c .before .before .fault .ensures)
 
 end-requires : tie.Need-end-requires
 end-requires c κs = search needs
@@ -27,7 +27,7 @@ unfolding complete
 returns c = rw (c .end .ensures, c .before .before .before .refuse .ensures .0, c .before .before .before .refuse .ensures .1, ← c .before .before .before .before .before .before .fault .ensures, ne-eqb _ _ (c .before .before .before .before .before .if1 .taken))
 
 tell-requires : tie.Need-tell-requires
-tell-requires c κs = ended-registers _ _ _ (sym (c .before .before .fault .ensures) ∙ c .before .if1 .left)
+tell-requires c κs = ended-sized _ _ _ (sym (c .before .before .fault .ensures) ∙ c .before .if1 .left)
 
 end-requires-2 : tie.Need-end-requires-2
 end-requires-2 c κs = search needs

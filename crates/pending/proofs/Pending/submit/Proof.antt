@@ -2,7 +2,7 @@
 use mathlib.Core.Path.{_∙_, sym}
 use borrow.Author.Tests.{eq-eqb, ne-eqb}
 use Rattle.pending.specs.Submit.{submit}
-use Rattle.order.proofs.Laws.{taken-registers, taken-whole}
+use Rattle.order.proofs.Laws.{taken-sized, taken-whole, roomy}
 use borrow.Author.Needs.{needs}
 use Rattle.pending.proofs.Pending.submit.Statement.{statement}
 use Rattle.pending.proofs.Pending.submit.Tie as tie
@@ -14,7 +14,7 @@ fault-requires : tie.Need-fault-requires
 fault-requires c κs = search needs
 
 refuse-requires : tie.Need-refuse-requires
-refuse-requires c κs = search needs
+refuse-requires c κs = roomy _ _ _ _ _ (c .before .before .fault .ensures)
 
 answer-requires : tie.Need-answer-requires
 answer-requires c κs = search needs
@@ -30,7 +30,7 @@ protocol-requires : tie.Need-protocol-requires
 protocol-requires c κs = taken-whole _ _ _ _ _ (sym (c .before .fault .ensures) ∙ c .if1 .left)
 
 report-requires : tie.Need-report-requires
-report-requires c κs = taken-registers _ _ _ _ _ (sym (c .before .before .before .before .fault .ensures) ∙ c .before .before .before .if1 .left)
+report-requires c κs = taken-sized _ _ _ _ _ (sym (c .before .before .before .before .fault .ensures) ∙ c .before .before .before .if1 .left)
 
 answer-requires-2 : tie.Need-answer-requires-2
 answer-requires-2 c κs = search needs
