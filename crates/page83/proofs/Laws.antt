@@ -2,15 +2,17 @@
 use mathlib.Core.Path.{_≡_, refl, _∙_}
 use mathlib.Core.Bool.{Bool, true, false, cond}
 use mathlib.Core.List.{List, _++_}
-use Prim.Native.Nat.{ℕ, _+_}
+use Prim.Native.Nat.{ℕ, _≤_, _<_}
 use native.Mathlib.Omega.{arith}
 use lib.ListN.{length, length-append}
+use borrow.Author.Tests.{eq-eqb, lt-ltb, le-ltb}
+use Rattle.room.specs.Room.{written}
 use Rattle.identify.specs.Block.{serial, model, name}
 use Rattle.identify.specs.Text.{turned, spaced}
 use Rattle.identify.specs.Drive.{carriesName}
 use Rattle.identify.proofs.Block.{length-words}
 use Rattle.identify.proofs.Text.{length-turned, length-spaced}
-use Rattle.page83.specs.Page83.{page83, namePage, textPage, ata}
+use Rattle.page83.specs.Page83.{page83, namePage, textPage, ata, refusalOf, outcome, write}
 
 module _ (block : List ℕ) where
   pub named-page : carriesName block ≡ true → page83 block ≡ namePage (turned (name block))
@@ -44,3 +46,13 @@ page-sizes block h = by (carriesName block) refl
     by : (b : Bool) → carriesName block ≡ b → length (page83 block) ≡ cond b 16 76
     by true e = length-named block h e
     by false e = length-unnamed block h e
+
+-- The writer, by how much room there is for a page of n bytes.
+module _ (block room : List ℕ) (h : length block ≡ 512) {n : ℕ} (l : length (page83 block) ≡ n) where
+  pub too-little : length room < n → write block room ≡ outcome (record { number = 8; count = 0 }) room
+  unfolding refusalOf write
+  too-little s = rw (eq-eqb _ _ h, l, lt-ltb _ _ s)
+
+  pub enough : n ≤ length room → write block room ≡ outcome (record { number = 0; count = n }) (written room 0 (page83 block))
+  unfolding refusalOf write
+  enough s = rw (eq-eqb _ _ h, l, le-ltb _ _ s)

@@ -93,23 +93,30 @@ pub fn size(block: &[u8]) -> usize
     76
 }
 
+// The writer's answer.
+fn wrote(number: u8, count: usize) -> Written
+    ensures { λ r. ⌜ r ≡ record { number = number; count = count } ⌝ }
+{
+    Written { number, count }
+}
+
 // Writes the whole page of a block into room that holds it.
 pub fn write(block: &[u8], room: &mut [u8]) -> Written
     ensures { λ r. ⌜ outcome r (now (room .exit)) ≡ Page83·write (now (block .entry)) (now (room .entry)) ⌝ }
 {
     if block.len() != 512 {
-        return Written {
-            number: 1,
-            count: 0,
-        };
+        return wrote(1, 0);
     }
-    let count = size(block);
-    if room.len() < count {
-        return Written {
-            number: 8,
-            count: 0,
-        };
+    if identify::carries_name(block) {
+        if room.len() < 16 {
+            return wrote(8, 0);
+        }
+        put_name(room, block);
+        return wrote(0, 16);
     }
-    put(room, block);
-    Written { number: 0, count }
+    if room.len() < 76 {
+        return wrote(8, 0);
+    }
+    put_texts(room, block);
+    wrote(0, 76)
 }

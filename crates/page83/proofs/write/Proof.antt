@@ -1,33 +1,86 @@
--- `write`: the checks in order, then the page.
+-- `write`: the checks in order, then the page of its form.
 use mathlib.Core.Path.{_∙_, sym}
-use borrow.Author.Tests.{eq-eqb, ne-eqb, lt-ltb, le-ltb}
+use borrow.Author.Tests.{ne-eqb}
 use Rattle.page83.specs.Page83.{refusalOf, write}
+use Rattle.page83.proofs.Laws.{named-page, unnamed-page, length-named, length-unnamed, too-little, enough}
 use borrow.Author.Needs.{needs}
 use Rattle.page83.proofs.write.Statement.{statement}
 use Rattle.page83.proofs.write.Tie as tie
 
+wrote-requires : tie.Need-wrote-requires
+wrote-requires c κs = search needs
+
 returns : tie.Need-returns
 unfolding refusalOf write
-returns c = simp (ne-eqb _ _ (c .if1 .taken))
+returns c = simp (c .wrote .ensures, ne-eqb _ _ (c .before .if1 .taken))
 
-size-requires : tie.Need-size-requires
-size-requires c κs = search needs
+carries-name-requires : tie.Need-carries-name-requires
+carries-name-requires c κs = search needs
+
+wrote-requires-2 : tie.Need-wrote-requires-2
+wrote-requires-2 c κs = search needs
 
 returns-2 : tie.Need-returns-2
-unfolding refusalOf write
-returns-2 c = simp (eq-eqb _ _ (c .before .before .if1 .left), lt-ltb _ _ (rw (c .before .size .ensures) at (c .if2 .taken)))
+returns-2 c =
+    let a = c .before .before .before .before .before .before .before in
+    let named = sym (c .before .before .before .carries-name .ensures) ∙ c .before .before .if2 .taken in
+    rw (c .wrote2 .ensures) (sym (too-little (a .args .block .now) (a .args .room .now) (c .before .before .before .before .if1 .left) (length-named (a .args .block .now) (c .before .before .before .before .if1 .left) named) (c .before .if3 .taken)))
 
-put-requires : tie.Need-put-requires
-put-requires c κs = search needs
+put-name-requires : tie.Need-put-name-requires
+put-name-requires c κs = search needs
+
+wrote-requires-3 : tie.Need-wrote-requires-3
+wrote-requires-3 c κs = search needs
 
 same-length : tie.Need-same-length
 same-length c = search needs
 
 returns-3 : tie.Need-returns-3
-unfolding refusalOf write
 returns-3 c =
-    simp (eq-eqb _ _ (c .before .before .before .before .before .before .if1 .left), le-ltb _ _ (rw (c .before .before .before .before .before .size .ensures) at (c .before .before .before .before .if2 .left)), c .before .before .before .before .before .size .ensures, c .before .before .put .ensures .leaves)
+    let a = c .before .before .before .before .before .before .before .before .before .before .before in
+    let named = sym (c .before .before .before .before .before .before .before .carries-name .ensures) ∙ c .before .before .before .before .before .before .if2 .taken in
+    rw (c .wrote3 .ensures, c .before .before .before .put-name .ensures .leaves, ← named-page (a .args .block .now) named) (sym (enough (a .args .block .now) (a .args .room .now) (c .before .before .before .before .before .before .before .before .if1 .left) (length-named (a .args .block .now) (c .before .before .before .before .before .before .before .before .if1 .left) named) (c .before .before .before .before .before .if3 .left)))
+
+wrote-requires-4 : tie.Need-wrote-requires-4
+wrote-requires-4 c κs = search needs
+
+returns-4 : tie.Need-returns-4
+returns-4 c =
+    let a = c .before .before .before .before .before .before .before in
+    let named = sym (c .before .before .before .carries-name .ensures) ∙ c .before .before .if2 .left in
+    rw (c .wrote4 .ensures) (sym (too-little (a .args .block .now) (a .args .room .now) (c .before .before .before .before .if1 .left) (length-unnamed (a .args .block .now) (c .before .before .before .before .if1 .left) named) (c .before .if4 .taken)))
+
+put-texts-requires : tie.Need-put-texts-requires
+put-texts-requires c κs = search needs
+
+wrote-requires-5 : tie.Need-wrote-requires-5
+wrote-requires-5 c κs = search needs
+
+same-length-2 : tie.Need-same-length-2
+same-length-2 c = search needs
+
+returns-5 : tie.Need-returns-5
+returns-5 c =
+    let a = c .before .before .before .before .before .before .before .before .before .before .before in
+    let named = sym (c .before .before .before .before .before .before .before .carries-name .ensures) ∙ c .before .before .before .before .before .before .if2 .left in
+    rw (c .wrote5 .ensures, c .before .before .before .put-texts .ensures .leaves, ← unnamed-page (a .args .block .now) named) (sym (enough (a .args .block .now) (a .args .room .now) (c .before .before .before .before .before .before .before .before .if1 .left) (length-unnamed (a .args .block .now) (c .before .before .before .before .before .before .before .before .if1 .left) named) (c .before .before .before .before .before .if4 .left)))
 
 pub write-spec : {M : Type 1} → statement M
 write-spec =
-    tie.close (tie.spec returns size-requires returns-2 put-requires same-length returns-3)
+    tie.close
+    (tie.spec
+    wrote-requires
+    returns
+    carries-name-requires
+    wrote-requires-2
+    returns-2
+    put-name-requires
+    wrote-requires-3
+    same-length
+    returns-3
+    wrote-requires-4
+    returns-4
+    put-texts-requires
+    wrote-requires-5
+    same-length-2
+    returns-5)
