@@ -29,14 +29,18 @@ fn say_counts(blocks: u16, drives: u16) -> bool {
 }
 
 // What tells the block's drive from others.
-fn say_kind(block: &[u8]) -> bool {
+fn say_kind(block: &[u8]) -> bool
+    requires { ⌜ length (now block) ≡ 512 ⌝ }
+{
     if identify::carries_name(block) {
         return say(b" wwn\n");
     }
     say(b" text\n")
 }
 
-fn say_block(i: usize, row: u16, block: &[u8]) -> bool {
+fn say_block(i: usize, row: u16, block: &[u8]) -> bool
+    requires { ⌜ length (now block) ≡ 512 ⌝ }
+{
     say_number(i as u64) && say(b" ") && say_number(row as u64) && say_kind(block)
 }
 
