@@ -190,6 +190,60 @@ typedef struct {
  */
 piongseut_roll_answer piongseut_roll(const uint8_t *blocks, size_t blocks_size, uint16_t *rows, size_t rows_size);
 
+/* ---- The intake: IDENTIFY data off the wire ---- */
+
+/*
+ * An intake collects the 512 bytes of a block that arrives in runs of any length. It is these two numbers and a store of 512 bytes,
+ * both kept by the caller: what it has stands in the store's first `have` bytes. Begin with piongseut_intake_empty(), and again to
+ * empty it; the store's bytes past `have` mean nothing, so the store needs no clearing.
+ */
+typedef struct {
+    uint16_t have; /* bytes that it has; more than 512 is refused */
+    uint16_t sum;  /* their sum modulo 256, counted on from the sum that was handed in */
+} piongseut_intake;
+
+typedef struct {
+    piongseut_intake next; /* the intake afterwards: the one handed in, where refused */
+    uint16_t used;         /* how many bytes of the run it took, from the run's start */
+    uint8_t number;        /* refusal number, 0 if none */
+    uint8_t complete;      /* 1: it has all 512 bytes */
+} piongseut_intake_answer;
+
+/* An intake that has nothing. */
+piongseut_intake piongseut_intake_empty(void);
+
+/*
+ * Takes a run, of any length, also of none. Lent to read: the run. Lent to write: the store, 512 bytes; only those that the run's
+ * bytes go to are written. A complete intake uses nothing more.
+ * Refusal 1: a store not of 512 bytes; an intake that claims more than 512. It changes nothing.
+ */
+piongseut_intake_answer piongseut_intake_take(piongseut_intake intake,
+                                              uint8_t *store, size_t store_size,
+                                              const uint8_t *run, size_t run_size);
+
+typedef struct {
+    uint8_t number; /* refusal number, 0 if none */
+    size_t count;   /* bytes, from the front */
+} piongseut_intake_count;
+
+/*
+ * How many bytes of its store are an intake's block: all 512 where it is complete, and else 0. Lend the store's first `count` bytes
+ * as the block to piongseut_inquiry or piongseut_write_page83.
+ * Refusal 1: a store not of 512 bytes; an intake that claims more than 512.
+ */
+piongseut_intake_count piongseut_intake_block(piongseut_intake intake, size_t store_size);
+
+/*
+ * Gathers the blocks of a run of intakes, for piongseut_roll: the stores of those that are complete, in their order. Lent to read:
+ * how many bytes each intake has, and their stores one after the other, 512 bytes each. Lent to write: room, where the blocks come
+ * to stand one after the other; the rest of it is untouched.
+ * Back: how many bytes of blocks stand in the room. Lend the first `count` bytes to piongseut_roll.
+ * Refusals: 1 (stores of another size than 512 bytes an intake; an intake that claims more than 512), 8 (room below the blocks).
+ */
+piongseut_intake_count piongseut_intake_gather(const uint16_t *haves, size_t intake_count,
+                                               const uint8_t *stores, size_t stores_size,
+                                               uint8_t *room, size_t room_size);
+
 #ifdef __cplusplus
 }
 #endif

@@ -1,11 +1,15 @@
 // Piongseut: the board as a C library. Every entry is a thin function over the one that is proved below it, and promises the same
 // in the same words; include/piongseut.h says it to C. Only what stands here is visible in the archive.
 use inquiry::Answer;
+use intake::Intake;
+use intake::Offered;
+use intake::Took;
 use page83::Name;
 use page83::Written;
 use pending::Ended;
 use pending::Pending;
 use pending::Taken;
+use received::Gathered;
 use roll::Counted;
 ghost use mathlib.Core.Path.{_≡_};
 ghost use mathlib.Core.List.{List};
@@ -16,6 +20,8 @@ ghost use Rattle.pending.specs.Complete.{outcome as completeOutcome, complete a
 ghost use Rattle.page83.specs.Page83.{outcome as writtenOutcome, write as writeRule};
 ghost use Rattle.page83.specs.Reader.{read as readRule};
 ghost use Rattle.roll.specs.Roll.{outcome as rollOutcome, roll as rollRule};
+ghost use Rattle.intake.specs.Intake.{empty as emptyIntake, outcome as takenOutcome, taken as takenRule, offered};
+ghost use Rattle.received.specs.Received.{gatherOutcome, gatherOf};
 
 // Answers an INQUIRY command.
 #[no_mangle]
@@ -95,4 +101,36 @@ pub extern "C" fn piongseut_roll(blocks: &[u8], rows: &mut [u16]) -> Counted
     ensures { λ r. ⌜ rollOutcome r (now (rows .exit)) ≡ rollRule (now (blocks .entry)) (now (rows .entry)) ⌝ }
 {
     roll::roll(blocks, rows)
+}
+
+// An intake that has nothing.
+#[no_mangle]
+pub extern "C" fn piongseut_intake_empty() -> Intake
+    ensures { λ r. ⌜ r ≡ emptyIntake ⌝ }
+{
+    intake::empty()
+}
+
+// Takes a run of bytes into an intake.
+#[no_mangle]
+pub extern "C" fn piongseut_intake_take(intake: Intake, store: &mut [u8], run: &[u8]) -> Took
+    ensures { λ r. ⌜ takenOutcome r (now (store .exit)) ≡ takenRule intake (now (store .entry)) (now (run .entry)) ⌝ }
+{
+    intake::take(intake, store, run)
+}
+
+// How many bytes of its store are an intake's block.
+#[no_mangle]
+pub extern "C" fn piongseut_intake_block(intake: Intake, store: usize) -> Offered
+    ensures { λ r. ⌜ r ≡ offered (intake .have) store ⌝ }
+{
+    intake::block_size(intake, store)
+}
+
+// Gathers the blocks of a run of intakes.
+#[no_mangle]
+pub extern "C" fn piongseut_intake_gather(haves: &[u16], stores: &[u8], room: &mut [u8]) -> Gathered
+    ensures { λ r. ⌜ gatherOutcome r (now (room .exit)) ≡ gatherOf (now (haves .entry)) (now (stores .entry)) (now (room .entry)) ⌝ }
+{
+    received::gather(haves, stores, room)
 }

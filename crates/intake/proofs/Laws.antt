@@ -1,0 +1,69 @@
+-- Laws of sums and of runs.
+use mathlib.Core.Path.{_≡_, refl, sym, ap, _∙_}
+use mathlib.Core.Bool.{false, not}
+use mathlib.Core.List.{List, [], _∷_, _++_}
+use Prim.Native.Nat.{ℕ, zero, suc, _+_, _-_, _*_, _≤_, _<_, min}
+use native.Mathlib.Nat.{sub-zero, suc-sub-suc}
+use native.Mathlib.Omega.{arith}
+use lib.Dec.{eqb, ltb}
+use lib.ListN.{length, getD, take, drop, drop-of-length-le}
+use lib.Seq.{drop-cons}
+use borrow.Author.Tests.{eqb-true, ltb-false, not-false}
+use Rattle.rules.proofs.Checks.{neither}
+use Rattle.intake.specs.Intake.{wrongIntake, sumOf}
+
+-- An intake that is not refused has a store of 512 bytes, and claims no more.
+pub right : (have store : ℕ) → wrongIntake have store ≡ false → (store ≡ 512) × (have ≤ 512)
+right have store e =
+    let both = neither (not (eqb store 512)) (ltb 512 have) e in
+    (eqb-true _ _ (not-false _ (both .0)), ltb-false _ _ (both .1))
+
+pub sum-append : (a b : List ℕ) → sumOf (a ++ b) ≡ sumOf a + sumOf b
+unfolding sumOf
+sum-append [] b = omega arith
+sum-append (x ∷ a) b = ap (λ (n : ℕ). x + n) (sum-append a b) ∙ omega arith
+
+-- A loop that adds the bytes up, before its turn i: what is left to add takes the sum to where it is to be.
+pub record Summing (bytes : List ℕ) (sum i : ℕ) : Type 0 where
+  pub upto : i ≤ length bytes
+  pub left : sum + sumOf (drop i bytes) ≡ sumOf bytes
+  pub small : sum ≤ 255 * i
+
+pub none-yet : (bytes : List ℕ) → Summing bytes 0 0
+none-yet bytes = record { upto = omega arith; left = omega arith; small = omega arith }
+
+pub more : {bytes : List ℕ} {sum i : ℕ} (v : ℕ) → Summing bytes sum i → i < length bytes → v ≡ getD bytes i 0 → v < 256 → Summing bytes (sum + v) (i + 1)
+unfolding sumOf
+more {bytes} {sum} {i} v s h e l =
+    let k : i + 1 ≡ suc i = omega arith in
+    let d : sum + (getD bytes i 0 + sumOf (drop (suc i) bytes)) ≡ sumOf bytes = rw (drop-cons bytes i 0 h) at (s .left) in
+    record { upto = omega arith; left = rw (e, k) (omega (arith, d)); small = omega (arith, s .small) }
+
+pub all-summed : {bytes : List ℕ} {sum i : ℕ} → Summing bytes sum i → length bytes ≤ i → sum ≡ sumOf bytes
+unfolding sumOf
+all-summed {bytes} {sum} {i} s h =
+    let d : sum + 0 ≡ sumOf bytes = rw (drop-of-length-le bytes {i = i} h) at (s .left) in
+    omega (arith, d)
+
+-- Past its length, how many bytes are taken of a list does not matter.
+pub take-least : (n : ℕ) (l : List ℕ) → take (min (length l) n) l ≡ take n l
+take-least zero [] = refl
+take-least zero (x ∷ l) =
+    let e : min (length (x ∷ l)) 0 ≡ 0 = omega arith in
+    ap (λ (n : ℕ). take n (x ∷ l)) e
+take-least (suc n) [] =
+    let e : min 0 (suc n) ≡ 0 = omega arith in
+    ap (λ (k : ℕ). take k []) e
+take-least (suc n) (x ∷ l) = rw (min-suc (length l) n) (ap (λ (r : List ℕ). x ∷ r) (take-least n l))
+  where
+    min-suc : (a b : ℕ) → min (suc a) (suc b) ≡ suc (min a b)
+    min-suc a b = omega arith
+
+-- What is taken of two runs in a row: of the first, and of the second what the first leaves to take.
+pub take-join : (n : ℕ) (a b : List ℕ) → take n (a ++ b) ≡ take n a ++ take (n - length (take n a)) b
+take-join zero [] b = refl
+take-join (suc n) [] b =
+    let e : suc n ≡ suc n - 0 = omega arith in
+    ap (λ (k : ℕ). take k b) e
+take-join zero (x ∷ a) b = refl
+take-join (suc n) (x ∷ a) b = rw suc-sub-suc (ap (λ (r : List ℕ). x ∷ r) (take-join n a b))

@@ -1,0 +1,3 @@
+-- The laws of intakes, and of a stream that is divided into runs.
+pub mod Laws
+pub mod Stream

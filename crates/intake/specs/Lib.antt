@@ -1,0 +1,2 @@
+-- The intake, as request L6 has it.
+pub mod Intake

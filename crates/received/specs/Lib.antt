@@ -1,0 +1,2 @@
+-- What is done with intakes.
+pub mod Received

@@ -1,0 +1,88 @@
+-- "Page 89h and the roll work from its block."
+use mathlib.Core.Bool.{Bool, false, cond, _||_, not}
+use mathlib.Core.List.{List, [], _∷_, _++_}
+use Prim.Native.Nat.{ℕ, zero, suc, _+_, _*_}
+use lib.Dec.{eqb, ltb}
+use lib.ListN.{length, take, drop}
+use Rattle.rules.specs.Checks.{_⇒_, first}
+use Rattle.room.specs.Room.{written}
+use Rattle.intake.specs.Intake.{wrongIntake, complete, blockOf}
+use Rattle.inquiry.specs.Inquiry.{request, refused, inquiry}
+use Rattle.inquiry.specs.Inquiry as Inquiry
+use Rattle.roll.specs.declared.Counted.{Counted}
+use Rattle.received.specs.declared.Gathered.{Gathered}
+use Rattle.roll.specs.Roll as Roll
+use Rattle.roll.specs.Roll.{roll}
+
+-- The INQUIRY entry with an intake's block for its block; an intake that is refused is a lent piece of a wrong size, 1.
+unfoldable pub inquiryOf : ℕ → List ℕ → List ℕ → List ℕ → List ℕ → List ℕ → List ℕ → List ℕ → Inquiry.Outcome
+inquiryOf have store command signature texts reply room sense =
+    cond (wrongIntake have (length store)) (refused 1 room sense)
+    (inquiry (request command (blockOf have store) signature texts reply) room sense)
+
+-- "An intake that claims more than 512 bytes gets refusal 1."
+unfoldable pub claimsTooMuch : List ℕ → Bool
+claimsTooMuch [] = false
+claimsTooMuch (have ∷ haves) = ltb 512 have || claimsTooMuch haves
+
+unfoldable pub completeIn : List ℕ → ℕ
+completeIn [] = 0
+completeIn (have ∷ haves) = cond (complete have) 1 0 + completeIn haves
+
+-- The blocks of a run of intakes, whose stores stand one after the other.
+unfoldable pub gathered : List ℕ → List ℕ → List ℕ
+gathered [] stores = []
+gathered (have ∷ haves) stores = blockOf have (take 512 stores) ++ gathered haves (drop 512 stores)
+
+-- 1: stores of another size than 512 bytes an intake, or an intake that claims more than 512.
+abbrev pub wrongRun : List ℕ → ℕ → Bool
+wrongRun haves stores = not (eqb stores (512 * length haves)) || claimsTooMuch haves
+
+-- Gathering them: 8 where "output room is shorter than the bytes to write".
+unfoldable pub gatherRefusal : List ℕ → List ℕ → ℕ → ℕ
+gatherRefusal haves stores room = first
+    ((wrongRun haves (length stores) ⇒ 1)
+    ∷ (ltb room (length (gathered haves stores)) ⇒ 8)
+    ∷ [])
+
+pub record GatherOutcome : Type 0 where
+  pub gathered : Gathered
+  pub room : List ℕ
+
+abbrev pub gatherOutcome : Gathered → List ℕ → GatherOutcome
+gatherOutcome gathered room = record { gathered = gathered; room = room }
+
+abbrev pub given : ℕ → ℕ → Gathered
+given number count = record { number = number; count = count }
+
+unfoldable pub gatherOf : List ℕ → List ℕ → List ℕ → GatherOutcome
+gatherOf haves stores room =
+    cond (eqb (gatherRefusal haves stores (length room)) 0)
+    (gatherOutcome (given 0 (length (gathered haves stores))) (written room 0 (gathered haves stores)))
+    (gatherOutcome (given (gatherRefusal haves stores (length room)) 0) room)
+
+-- The roll of a run: 1 where the intakes or the roll of their blocks would be refused, 8 where room is short of the blocks.
+unfoldable pub refusalOf : List ℕ → List ℕ → ℕ → ℕ → ℕ
+refusalOf haves stores room rows = first
+    ((wrongRun haves (length stores) ⇒ 1)
+    ∷ (not (eqb (Roll.refusalOf (gathered haves stores) rows) 0) ⇒ 1)
+    ∷ (ltb room (length (gathered haves stores)) ⇒ 8)
+    ∷ [])
+
+-- Everything that comes back, and everything lent that can change.
+pub record Outcome : Type 0 where
+  pub counted : Counted
+  pub room : List ℕ
+  pub rows : List ℕ
+
+abbrev pub outcome : Counted → List ℕ → List ℕ → Outcome
+outcome counted room rows = record { counted = counted; room = room; rows = rows }
+
+-- The roll of the blocks, which come to stand in the room.
+abbrev pub rolled : List ℕ → List ℕ → List ℕ → Outcome
+rolled blocks room rows = outcome (roll blocks rows .counted) (written room 0 blocks) (roll blocks rows .room)
+
+unfoldable pub rollOf : List ℕ → List ℕ → List ℕ → List ℕ → Outcome
+rollOf haves stores room rows =
+    cond (eqb (refusalOf haves stores (length room) (length rows)) 0) (rolled (gathered haves stores) room rows)
+    (outcome (record { number = refusalOf haves stores (length room) (length rows); blocks = 0; drives = 0 }) room rows)
