@@ -1,6 +1,6 @@
 /*
- * Uses every function of piongseut.h as a C program would, and checks the answers against the values of document 01. The same
- * file is compiled as C++, to see that both can read the header.
+ * Uses every function of piongseut.h as a C program would, and checks the answers against the values of document 01 and, for the
+ * intake, request L6 of document 02. The same file is compiled as C++, to see that both can read the header.
  */
 #include "piongseut.h"
 
@@ -255,6 +255,121 @@ static void rolls(void)
     check(answer.number == 1, "65 blocks, 1");
 }
 
+/* Whether a refused run came back with the intake as it was, and nothing was written. */
+static int run_refused(piongseut_intake intake, uint8_t *store, size_t size)
+{
+    static const uint8_t run[3] = {1, 2, 3};
+    piongseut_intake_answer answer = piongseut_intake_take(intake, store, size, run, sizeof run);
+    return answer.number == 1 && answer.used == 0 && answer.complete == 0 && answer.next.have == intake.have &&
+           answer.next.sum == intake.sum && untouched(store, size);
+}
+
+static void refused_runs(void)
+{
+    const piongseut_intake too_many = {513, 0xABCD};
+    const piongseut_intake most = {0xFFFF, 1};
+    static uint8_t store[513];
+    memset(store, FILL, sizeof store);
+    check(run_refused(too_many, store, 512) && run_refused(most, store, 512), "an intake that claims more than 512 bytes, 1");
+    check(run_refused(piongseut_intake_empty(), store, 511) && run_refused(piongseut_intake_empty(), store, 513) &&
+              run_refused(piongseut_intake_empty(), store, 0),
+          "a store that is not of 512 bytes, 1");
+}
+
+/* C1's block and four bytes behind it, in three runs of which one has no bytes. Back: the intake, which is complete then. */
+static piongseut_intake one_stream(uint8_t *store)
+{
+    static uint8_t wire[516];
+    const piongseut_intake empty = piongseut_intake_empty();
+    memset(wire, 0x77, sizeof wire);
+    memcpy(wire, block, sizeof block);
+    check(empty.have == 0 && empty.sum == 0, "an empty intake has nothing");
+    piongseut_intake_answer answer = piongseut_intake_take(empty, store, 512, wire, 300);
+    check(answer.number == 0 && answer.used == 300 && answer.complete == 0 && answer.next.have == 300 && answer.next.sum == 0x29,
+          "a run of 300 bytes: all used, not complete");
+    check(memcmp(store, wire, 300) == 0 && untouched(store + 300, 212), "the store has its bytes, and no others");
+    answer = piongseut_intake_take(answer.next, store, 512, wire, 0);
+    check(answer.number == 0 && answer.used == 0 && answer.complete == 0 && answer.next.have == 300 && answer.next.sum == 0x29,
+          "a run of no bytes: nothing changes");
+    answer = piongseut_intake_take(answer.next, store, 512, wire + 300, 216);
+    check(answer.number == 0 && answer.used == 212 && answer.complete == 1 && answer.next.have == 512 && answer.next.sum == 0x29,
+          "a run of 216 bytes: 212 used, complete");
+    check(memcmp(store, block, 512) == 0, "the store is the stream's first 512 bytes");
+    piongseut_intake_answer more = piongseut_intake_take(answer.next, store, 512, wire + 512, 4);
+    check(more.number == 0 && more.used == 0 && more.complete == 1 && more.next.have == 512 && memcmp(store, block, 512) == 0,
+          "a run for a complete intake: nothing used");
+    return answer.next;
+}
+
+/* INQUIRY with what the intake gives as its block. */
+static piongseut_inquiry_answer ask_intake(piongseut_intake intake, const uint8_t *store, uint8_t page)
+{
+    const uint8_t command[6] = {0x12, 0x01, page, 0xFF, 0xFF, 0x00};
+    piongseut_intake_count its = piongseut_intake_block(intake, 512);
+    check(its.number == 0 && its.count == (intake.have == 512 ? 512u : 0u), "the block of an intake: 512 bytes or none");
+    return piongseut_inquiry(command, sizeof command, store, its.count, signature, sizeof signature, texts, sizeof texts, texts, 0,
+                             room, sizeof room, sense, sizeof sense);
+}
+
+/* Pages from the complete intake, from one that lacks a byte, and no block of a wrong one. */
+static void intake_pages(piongseut_intake intake, const uint8_t *store)
+{
+    static const uint8_t zeros[512] = {0};
+    piongseut_inquiry_answer answer = ask_intake(intake, store, 0x89);
+    check(answer.number == 0 && answer.status == PIONGSEUT_GOOD && answer.shown == 1 && answer.count == 572 && room[56] == 0xEC &&
+              memcmp(room + 60, block, 512) == 0 && untouched(room + 572, sizeof room - 572),
+          "page 89h from the intake: its block");
+    intake.have = 511;
+    answer = ask_intake(intake, store, 0x89);
+    check(answer.number == 0 && answer.count == 572 && memcmp(room + 60, zeros, 512) == 0, "page 89h until complete: zeros");
+    answer = ask_intake(intake, store, 0x83);
+    check(answer.number == 6 && answer.status == PIONGSEUT_CHECK_CONDITION && sense[1] == 0x02, "page 83h until complete, 6");
+    intake.have = 513;
+    piongseut_intake_count its = piongseut_intake_block(intake, 512);
+    check(its.number == 1 && its.count == 0, "the block of an intake that claims 513 bytes, 1");
+    its = piongseut_intake_block(piongseut_intake_empty(), 511);
+    check(its.number == 1 && its.count == 0, "the block of a store of 511 bytes, 1");
+}
+
+/* Two intakes, of which the first is not complete: the roll is that of the second's block. */
+static void intake_rolls(const uint8_t *store)
+{
+    static uint8_t stores[1024];
+    static uint8_t blocks[1024];
+    uint16_t haves[2] = {511, 512};
+    uint16_t rows[2] = {0xAAAA, 0xAAAA};
+    memset(stores, 'S', 512);
+    memcpy(stores + 512, store, 512);
+    memset(blocks, FILL, sizeof blocks);
+    piongseut_intake_count gathered = piongseut_intake_gather(haves, 2, stores, sizeof stores, blocks, 511);
+    check(gathered.number == 8 && gathered.count == 0 && untouched(blocks, sizeof blocks), "room 511 for one block, 8");
+    gathered = piongseut_intake_gather(haves, 2, stores, 1023, blocks, sizeof blocks);
+    check(gathered.number == 1 && gathered.count == 0 && untouched(blocks, sizeof blocks),
+          "stores of 1,023 bytes for two intakes, 1");
+    haves[0] = 513;
+    gathered = piongseut_intake_gather(haves, 2, stores, sizeof stores, blocks, sizeof blocks);
+    check(gathered.number == 1 && gathered.count == 0 && untouched(blocks, sizeof blocks),
+          "gathering from an intake that claims 513 bytes, 1");
+    haves[0] = 511;
+    gathered = piongseut_intake_gather(haves, 2, stores, sizeof stores, blocks, sizeof blocks);
+    check(gathered.number == 0 && gathered.count == 512, "two intakes, one complete: 512 bytes");
+    check(memcmp(blocks, store, 512) == 0 && untouched(blocks + 512, 512), "the complete intake's block is at the room's start");
+    piongseut_roll_answer answer = piongseut_roll(blocks, gathered.count, rows, 2);
+    check(answer.number == 0 && answer.blocks == 1 && answer.drives == 1 && rows[0] == 1 && rows[1] == 0xAAAA,
+          "the roll of what was gathered: one block, one drive");
+}
+
+static void intakes(void)
+{
+    static uint8_t store[512];
+    prepare();
+    memset(store, FILL, sizeof store);
+    refused_runs();
+    piongseut_intake intake = one_stream(store);
+    intake_pages(intake, store);
+    intake_rolls(store);
+}
+
 int main(void)
 {
     inquiries();
@@ -266,6 +381,7 @@ int main(void)
     longest_order();
     pages83();
     rolls();
+    intakes();
     printf("uses_all: %d passed, %d failed\n", passed, failed);
     return failed != 0;
 }

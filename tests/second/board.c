@@ -5,9 +5,11 @@
  *
  * A batch:   u32 bytes that follow, then calls.
  * A call:    u32 bytes that follow; u8 function (bit 7: with the record that the last call left, not the one sent);
- *            u32 declared; the record, 28 bytes; u8 number of pieces; a piece: u32 size, its bytes.
+ *            u32 declared; the record, 28 bytes; the intake, 4 bytes; u8 number of pieces; a piece: u32 size, its bytes.
  * An answer: u32 bytes that follow; u8 function; u8 guard (0: untouched); the fields of what came back, in the header's order;
  *            the record, 28 bytes; the bytes of every piece, the const ones too.
+ * INTAKE_INQUIRY and INTAKE_ROLL are two functions each, one after the other, as a C program uses them: the second is lent what
+ * the first one counted. Where the first refuses, the second is not called, and its answer is one that has nothing.
  */
 #include "piongseut.h"
 
@@ -18,15 +20,17 @@
 
 _Static_assert(sizeof(piongseut_order) == 24, "an order has padding");
 _Static_assert(sizeof(piongseut_pending) == 28, "a record has padding");
+_Static_assert(sizeof(piongseut_intake) == 4, "an intake has padding");
+_Static_assert(sizeof(piongseut_intake_answer) == 8, "the answer of an intake has padding");
 
-enum { EMPTY, INQUIRY, SUBMIT, COMPLETE, WRITE, READ, ROLL, FUNCTIONS };
+enum { EMPTY, INQUIRY, SUBMIT, COMPLETE, WRITE, READ, ROLL, INTAKE_EMPTY, INTAKE_TAKE, INTAKE_INQUIRY, INTAKE_ROLL, FUNCTIONS };
 
 #define GUARD 64
 #define PIECES 7
 #define RECORD_GUARD 255
 #define BATCH_MOST (4u << 20)
 
-static const unsigned pieces_of[FUNCTIONS] = {0, 7, 3, 2, 2, 1, 2};
+static const unsigned pieces_of[FUNCTIONS] = {0, 7, 3, 2, 2, 1, 2, 0, 2, 7, 4};
 
 static uint8_t batch[BATCH_MOST];
 static uint8_t answers[4 * BATCH_MOST];
@@ -44,6 +48,7 @@ static struct {
     size_t size;
 } piece[PIECES];
 
+static piongseut_intake intake;
 static const uint8_t *in;
 static const uint8_t *in_end;
 static uint8_t *out;
@@ -96,6 +101,18 @@ static void take_record(int keep)
     memcpy(kept.after, guard, GUARD);
 }
 
+static void take_intake(void)
+{
+    intake.have = (uint16_t)take(2);
+    intake.sum = (uint16_t)take(2);
+}
+
+/* Whether a piece is 16-bit numbers: rows, or what intakes have. */
+static int of_sixteen_bits(unsigned function, unsigned at)
+{
+    return (function == ROLL && at == 1) || (function == INTAKE_ROLL && (at == 0 || at == 3));
+}
+
 /* Lays the pieces out with a guard before the first and behind each. The start moves, so that a piece meets every alignment. */
 static void take_pieces(unsigned function)
 {
@@ -107,8 +124,8 @@ static void take_pieces(unsigned function)
         size_t size = (size_t)take(4);
         if ((size_t)(in_end - in) < size)
             die("a piece that is cut short");
-        if (function == ROLL && at == 1 && ((uintptr_t)to & 1))
-            *to++ = guard[GUARD - 1]; /* rows are 16-bit numbers */
+        if (of_sixteen_bits(function, at) && ((uintptr_t)to & 1))
+            *to++ = guard[GUARD - 1]; /* their alignment */
         memcpy(to, guard, GUARD);
         to += GUARD;
         memcpy(to, in, size);
@@ -164,11 +181,39 @@ static void put_record(const piongseut_pending *record)
     put_order(&record->order);
 }
 
+static void put_intake(piongseut_intake of)
+{
+    put(of.have, 2);
+    put(of.sum, 2);
+}
+
+static void put_count(piongseut_intake_count of)
+{
+    put(of.number, 1);
+    put(of.count, 8);
+}
+
+static void put_inquiry(piongseut_inquiry_answer answer)
+{
+    put(answer.number, 1);
+    put(answer.status, 1);
+    put(answer.shown, 1);
+    put(answer.count, 8);
+}
+
+static void put_roll(piongseut_roll_answer answer)
+{
+    put(answer.number, 1);
+    put(answer.blocks, 2);
+    put(answer.drives, 2);
+}
+
 /* ---- The calls ---- */
 
 /*
  * CALL makes one call of a function. Compiled with MEASURE_STACK, it makes it over painted stack and keeps the deepest use, which
- * is told for each function when the input ends: bytes, and the number of calls.
+ * is told for each function when the input ends: bytes, and the number of calls. Of two functions one after the other, each
+ * is kept by itself.
  */
 #ifdef MEASURE_STACK
 #include "stack.h"
@@ -187,7 +232,10 @@ static void note(unsigned function, size_t depth)
 
 static void tell_stack(void)
 {
-    static const char *const names[FUNCTIONS] = {"empty", "inquiry", "submit", "complete", "write_page83", "read_page83", "roll"};
+    static const char *const names[FUNCTIONS] = {
+        "empty", "inquiry",      "submit",      "complete",     "write_page83", "read_page83",
+        "roll",  "intake_empty", "intake_take", "intake_block", "intake_gather",
+    };
     for (unsigned at = 0; at < FUNCTIONS; at++)
         fprintf(stderr, "piongseut_%s %zu %lu\n", names[at], used[at].deepest, used[at].calls);
 }
@@ -207,15 +255,13 @@ static void tell_stack(void)
 #endif
 
 #define LENT(n) piece[n].at, piece[n].size
+#define LENT_SIXTEEN(n) (uint16_t *)(void *)piece[n].at, piece[n].size / 2
 
 static void call_inquiry(void)
 {
     piongseut_inquiry_answer answer;
     CALL(INQUIRY, answer = piongseut_inquiry(LENT(0), LENT(1), LENT(2), LENT(3), LENT(4), LENT(5), LENT(6)));
-    put(answer.number, 1);
-    put(answer.status, 1);
-    put(answer.shown, 1);
-    put(answer.count, 8);
+    put_inquiry(answer);
 }
 
 static void call_submit(uint32_t declared)
@@ -256,10 +302,48 @@ static void call_read(void)
 static void call_roll(void)
 {
     piongseut_roll_answer answer;
-    CALL(ROLL, answer = piongseut_roll(LENT(0), (uint16_t *)(void *)piece[1].at, piece[1].size / 2));
+    CALL(ROLL, answer = piongseut_roll(LENT(0), LENT_SIXTEEN(1)));
+    put_roll(answer);
+}
+
+static void call_intake_empty(void)
+{
+    piongseut_intake empty;
+    CALL(INTAKE_EMPTY, empty = piongseut_intake_empty());
+    put_intake(empty);
+}
+
+static void call_intake_take(void)
+{
+    piongseut_intake_answer answer;
+    CALL(INTAKE_TAKE, answer = piongseut_intake_take(intake, LENT(0), LENT(1)));
+    put_intake(answer.next);
+    put(answer.used, 2);
     put(answer.number, 1);
-    put(answer.blocks, 2);
-    put(answer.drives, 2);
+    put(answer.complete, 1);
+}
+
+static void call_intake_inquiry(void)
+{
+    piongseut_intake_count block;
+    piongseut_inquiry_answer answer = {1, PIONGSEUT_NONE, 1, 0};
+    CALL(INTAKE_INQUIRY, block = piongseut_intake_block(intake, piece[0].size));
+    if (block.number == 0)
+        CALL(INQUIRY, answer = piongseut_inquiry(LENT(1), piece[0].at, block.count, LENT(2), LENT(3), LENT(4), LENT(5), LENT(6)));
+    put_count(block);
+    put_inquiry(answer);
+}
+
+static void call_intake_roll(void)
+{
+    piongseut_intake_count gathered;
+    piongseut_roll_answer answer = {0, 0, 0};
+    CALL(INTAKE_ROLL, gathered = piongseut_intake_gather(LENT_SIXTEEN(0), LENT(1), LENT(2)));
+    answer.number = gathered.number;
+    if (gathered.number == 0)
+        CALL(ROLL, answer = piongseut_roll(piece[2].at, gathered.count, LENT_SIXTEEN(3)));
+    put_count(gathered);
+    put_roll(answer);
 }
 
 static void call(unsigned function, uint32_t declared)
@@ -275,7 +359,11 @@ static void call(unsigned function, uint32_t declared)
     case COMPLETE: call_complete(); break;
     case WRITE: call_write(); break;
     case READ: call_read(); break;
-    default: call_roll(); break;
+    case ROLL: call_roll(); break;
+    case INTAKE_EMPTY: call_intake_empty(); break;
+    case INTAKE_TAKE: call_intake_take(); break;
+    case INTAKE_INQUIRY: call_intake_inquiry(); break;
+    default: call_intake_roll(); break;
     }
 }
 
@@ -315,6 +403,7 @@ static void serve(void)
         die("no such function");
     uint32_t declared = (uint32_t)take(4);
     take_record(first & 0x80);
+    take_intake();
     take_pieces(function);
     if (in != end)
         die("a call of a wrong size");

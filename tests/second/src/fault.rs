@@ -37,6 +37,21 @@ pub const NAMES: &[&str] = &[
     "reader-takes-name-zero",
     "89h-at-the-end",
     "89h-twice",
+    "intake-refuses-all",
+    "intake-writes-nothing",
+    "intake-reports-the-whole-run",
+    "intake-sums-past-512",
+    "intake-gives-a-partial-block",
+    "intake-takes-after-completion",
+    "intake-stores-at-the-start",
+    "block-of-what-it-has",
+    "block-refuses-until-complete",
+    "gather-takes-incomplete-stores",
+    "gather-limits-to-64",
+    "gather-fills-a-small-room",
+    "gather-clears-the-rest",
+    "gather-counts-blocks",
+    "gather-counts-every-store",
 ];
 
 /// Whether this fault is planted: named by the variable SECOND_FAULT.

@@ -1,18 +1,23 @@
 //! Which refusals apply to a call, each looked at alone: to see that every
 //! pair that can apply together was tried, and that the first one answered.
 
-use crate::call::{Call, COMPLETE, INQUIRY, READ, ROLL, SUBMIT, WRITE};
+use crate::call::{
+    numbers_in, Call, COMPLETE, INQUIRY, INTAKE_INQUIRY, INTAKE_ROLL, INTAKE_TAKE, READ, ROLL,
+    SUBMIT, WRITE,
+};
 
 /// A set of refusal numbers: bit n for number n.
 pub type Set = u32;
 
 /// The pairs that can apply together, by function. The fields of a command
 /// that is short or has another opcode are not looked at.
-pub const PAIRS: [(u8, &[(usize, usize)]); 4] = [
+pub const PAIRS: [(u8, &[(usize, usize)]); 6] = [
     (INQUIRY, &IN_INQUIRY),
     (SUBMIT, &IN_SUBMIT),
     (COMPLETE, &[(1, 15)]),
     (WRITE, &[(1, 8)]),
+    (INTAKE_INQUIRY, &IN_INQUIRY),
+    (INTAKE_ROLL, &[(1, 8)]),
 ];
 
 const IN_INQUIRY: [(usize, usize); 12] = [
@@ -79,12 +84,43 @@ pub fn to(call: &Call) -> Set {
         }
         READ => set(&[(16, second::read_page83(&call.pieces[0]).number != 0)]),
         ROLL => set(&[(1, roll_is_refused(sizes[0], sizes[1] / 2))]),
+        INTAKE_TAKE => set(&[(1, intake_is_refused(call))]),
+        INTAKE_INQUIRY => set(&[(1, intake_is_refused(call))]) | to_its_block(call),
+        INTAKE_ROLL => to_intakes(call, &sizes),
         _ => 0,
     }
 }
 
 fn roll_is_refused(bytes: usize, rows: usize) -> bool {
     !bytes.is_multiple_of(512) || bytes > 64 * 512 || rows < bytes / 512
+}
+
+/// Whether the intake of a take or an INQUIRY is wrong, or its store.
+fn intake_is_refused(call: &Call) -> bool {
+    call.intake.have > 512 || call.pieces[0].len() != 512
+}
+
+/// What applies to the INQUIRY with the intake's block in the store's place.
+fn to_its_block(call: &Call) -> Set {
+    let mut pieces = call.pieces.clone();
+    if call.intake.have != 512 {
+        pieces[0].clear();
+    }
+    pieces.swap(0, 1);
+    to(&Call::new(INQUIRY, pieces))
+}
+
+/// What applies to the gathering, and where nothing does to the roll: there is
+/// none before the blocks are gathered.
+fn to_intakes(call: &Call, sizes: &[usize]) -> Set {
+    let haves = numbers_in(&call.pieces[0]);
+    let complete = haves.iter().filter(|&&have| have == 512).count();
+    let wrong = haves.iter().any(|&have| have > 512) || sizes[1] != 512 * haves.len();
+    let gathering = set(&[(1, wrong), (8, sizes[2] < 512 * complete)]);
+    if gathering != 0 {
+        return gathering;
+    }
+    set(&[(1, roll_is_refused(512 * complete, sizes[3] / 2))])
 }
 
 fn page83_size(block: &[u8]) -> usize {

@@ -1,7 +1,7 @@
 //! A call of one of the board's functions: its bytes on the way to the board,
 //! and what the second program answers, as the board would write it.
 
-use second::{Order, Record};
+use second::{Counted, Inquiry, Intake, Order, Record, Roll};
 
 pub const EMPTY: u8 = 0;
 pub const INQUIRY: u8 = 1;
@@ -10,8 +10,14 @@ pub const COMPLETE: u8 = 3;
 pub const WRITE: u8 = 4;
 pub const READ: u8 = 5;
 pub const ROLL: u8 = 6;
+pub const INTAKE_EMPTY: u8 = 7;
+pub const INTAKE_TAKE: u8 = 8;
+/// The INQUIRY that asks an intake's block: two functions, one after the other.
+pub const INTAKE_INQUIRY: u8 = 9;
+/// The roll of what was gathered of intakes: two functions, too.
+pub const INTAKE_ROLL: u8 = 10;
 
-pub const NAMES: [&str; 7] = [
+pub const NAMES: [&str; 11] = [
     "empty",
     "inquiry",
     "submit",
@@ -19,10 +25,14 @@ pub const NAMES: [&str; 7] = [
     "write_page83",
     "read_page83",
     "roll",
+    "intake_empty",
+    "intake_take",
+    "intake_block, inquiry",
+    "intake_gather, roll",
 ];
 
 /// The lent pieces of each function, in the header's order.
-pub const PIECES: [&[&str]; 7] = [
+pub const PIECES: [&[&str]; 11] = [
     &[],
     &[
         "command",
@@ -38,7 +48,28 @@ pub const PIECES: [&[&str]; 7] = [
     &["block", "room"],
     &["page"],
     &["blocks", "rows"],
+    &[],
+    &["store", "run"],
+    &[
+        "store",
+        "command",
+        "signature",
+        "texts",
+        "reply",
+        "room",
+        "sense",
+    ],
+    &["haves", "stores", "room", "rows"],
 ];
+
+/// The pieces of a function that are 16-bit numbers.
+pub fn sixteen_bits(function: u8) -> &'static [usize] {
+    match function {
+        ROLL => &[1],
+        INTAKE_ROLL => &[0, 3],
+        _ => &[],
+    }
+}
 
 /// Set in the function's byte: the board uses the record that it kept.
 const KEPT: u8 = 0x80;
@@ -50,6 +81,7 @@ pub struct Call {
     pub kept: bool,
     pub declared: u32,
     pub record: Record,
+    pub intake: Intake,
     pub pieces: Vec<Vec<u8>>,
 }
 
@@ -67,12 +99,18 @@ impl Call {
             kept: false,
             declared: 0,
             record: Record::default(),
+            intake: Intake::default(),
             pieces,
         }
     }
 
     pub fn record(mut self, record: Record) -> Call {
         self.record = record;
+        self
+    }
+
+    pub fn intake(mut self, intake: Intake) -> Call {
+        self.intake = intake;
         self
     }
 
@@ -93,6 +131,7 @@ impl Call {
         out.push(self.function | if self.kept { KEPT } else { 0 });
         out.extend(self.declared.to_le_bytes());
         put_record(&self.record, out);
+        put_intake(&self.intake, out);
         out.push(self.pieces.len() as u8);
         for piece in &self.pieces {
             out.extend((piece.len() as u32).to_le_bytes());
@@ -107,6 +146,7 @@ impl Call {
         let function = from.number(1)? as u8 & !KEPT;
         let declared = from.number(4)? as u32;
         let record = from.record()?;
+        let intake = from.intake()?;
         let count = from.number(1)? as usize;
         if PIECES.get(usize::from(function))?.len() != count {
             return None;
@@ -121,6 +161,7 @@ impl Call {
             kept: false,
             declared,
             record,
+            intake,
             pieces,
         };
         from.0.is_empty().then_some(call)
@@ -141,7 +182,11 @@ impl Call {
             COMPLETE => self.answer_complete(&mut record, out),
             WRITE => self.answer_write(&record, out),
             READ => self.answer_read(&record, out),
-            _ => self.answer_roll(&record, out),
+            ROLL => self.answer_roll(&record, out),
+            INTAKE_EMPTY => answer_intake_empty(&record, out),
+            INTAKE_TAKE => self.answer_take(&record, out),
+            INTAKE_INQUIRY => self.answer_intake_inquiry(&record, out),
+            _ => self.answer_intake_roll(&record, out),
         };
         put_size(start, out);
         Said { number, record }
@@ -151,8 +196,7 @@ impl Call {
         let p = &self.pieces;
         let (mut room, mut sense) = (p[5].clone(), p[6].clone());
         let answer = second::inquiry(&p[0], &p[1], &p[2], &p[3], &p[4], &mut room, &mut sense);
-        out.extend([answer.number, answer.status, answer.shown]);
-        out.extend((answer.count as u64).to_le_bytes());
+        put_inquiry(&answer, out);
         put_record(record, out);
         p[..5].iter().for_each(|piece| out.extend(piece));
         out.extend(&room);
@@ -205,23 +249,104 @@ impl Call {
     }
 
     fn answer_roll(&self, record: &Record, out: &mut Vec<u8>) -> u8 {
-        let lent = self.pieces[1].chunks_exact(2);
-        let mut rows: Vec<u16> = lent
-            .map(|two| u16::from_le_bytes([two[0], two[1]]))
-            .collect();
+        let mut rows = numbers_in(&self.pieces[1]);
         let roll = second::roll(&self.pieces[0], &mut rows);
-        out.push(roll.number);
-        out.extend(roll.blocks.to_le_bytes());
-        out.extend(roll.drives.to_le_bytes());
+        put_roll(&roll, out);
         put_record(record, out);
         out.extend(&self.pieces[0]);
         rows.iter().for_each(|row| out.extend(row.to_le_bytes()));
         roll.number
     }
+
+    fn answer_take(&self, record: &Record, out: &mut Vec<u8>) -> u8 {
+        let mut store = self.pieces[0].clone();
+        let answer = second::intake_take(self.intake, &mut store, &self.pieces[1]);
+        put_intake(&answer.next, out);
+        out.extend(answer.used.to_le_bytes());
+        out.extend([answer.number, answer.complete]);
+        put_record(record, out);
+        out.extend(&store);
+        out.extend(&self.pieces[1]);
+        answer.number
+    }
+
+    /// INQUIRY with the bytes of the store that are the intake's block.
+    fn answer_intake_inquiry(&self, record: &Record, out: &mut Vec<u8>) -> u8 {
+        let p = &self.pieces;
+        let (mut room, mut sense) = (p[5].clone(), p[6].clone());
+        let block = second::block_size(self.intake, p[0].len());
+        let answer = if block.number == 0 {
+            let block = &p[0][..block.count];
+            second::inquiry(&p[1], block, &p[2], &p[3], &p[4], &mut room, &mut sense)
+        } else {
+            not_asked(block.number)
+        };
+        put_counted(&block, out);
+        put_inquiry(&answer, out);
+        put_record(record, out);
+        p[..5].iter().for_each(|piece| out.extend(piece));
+        out.extend(&room);
+        out.extend(&sense);
+        answer.number
+    }
+
+    /// The roll of the bytes that were gathered in the room.
+    fn answer_intake_roll(&self, record: &Record, out: &mut Vec<u8>) -> u8 {
+        let p = &self.pieces;
+        let (mut room, mut rows) = (p[2].clone(), numbers_in(&p[3]));
+        let gathered = second::gather(&numbers_in(&p[0]), &p[1], &mut room);
+        let roll = if gathered.number == 0 {
+            second::roll(&room[..gathered.count], &mut rows)
+        } else {
+            not_rolled(gathered.number)
+        };
+        put_counted(&gathered, out);
+        put_roll(&roll, out);
+        put_record(record, out);
+        out.extend(&p[0]);
+        out.extend(&p[1]);
+        out.extend(&room);
+        rows.iter().for_each(|row| out.extend(row.to_le_bytes()));
+        roll.number
+    }
+}
+
+/// What stands for the INQUIRY where the intake is refused: an INQUIRY with a
+/// piece of a wrong size.
+fn not_asked(number: u8) -> Inquiry {
+    Inquiry {
+        number,
+        status: 0xFF,
+        shown: 1,
+        count: 0,
+    }
+}
+
+/// What stands for the roll where the intakes are refused.
+fn not_rolled(number: u8) -> Roll {
+    Roll {
+        number,
+        blocks: 0,
+        drives: 0,
+    }
+}
+
+/// The 16-bit numbers that a piece holds.
+pub fn numbers_in(piece: &[u8]) -> Vec<u16> {
+    let pairs = piece.chunks_exact(2);
+    pairs
+        .map(|two| u16::from_le_bytes([two[0], two[1]]))
+        .collect()
 }
 
 fn answer_empty(record: &Record, out: &mut Vec<u8>) -> u8 {
     put_record(&Record::default(), out);
+    put_record(record, out);
+    0
+}
+
+fn answer_intake_empty(record: &Record, out: &mut Vec<u8>) -> u8 {
+    put_intake(&second::intake_empty(), out);
     put_record(record, out);
     0
 }
@@ -235,6 +360,27 @@ fn put_size(start: usize, out: &mut [u8]) {
 fn put_record(record: &Record, out: &mut Vec<u8>) {
     out.extend(record.state.to_le_bytes());
     put_order(&record.order, out);
+}
+
+fn put_intake(intake: &Intake, out: &mut Vec<u8>) {
+    out.extend(intake.have.to_le_bytes());
+    out.extend(intake.sum.to_le_bytes());
+}
+
+fn put_counted(counted: &Counted, out: &mut Vec<u8>) {
+    out.push(counted.number);
+    out.extend((counted.count as u64).to_le_bytes());
+}
+
+fn put_inquiry(answer: &Inquiry, out: &mut Vec<u8>) {
+    out.extend([answer.number, answer.status, answer.shown]);
+    out.extend((answer.count as u64).to_le_bytes());
+}
+
+fn put_roll(roll: &Roll, out: &mut Vec<u8>) {
+    out.push(roll.number);
+    out.extend(roll.blocks.to_le_bytes());
+    out.extend(roll.drives.to_le_bytes());
 }
 
 fn put_order(order: &Order, out: &mut Vec<u8>) {
@@ -285,6 +431,13 @@ impl<'a> Bytes<'a> {
             ck_cond: self.number(1)? as u8,
             extend: self.number(1)? as u8,
             direction: self.number(1)? as u8,
+        })
+    }
+
+    pub fn intake(&mut self) -> Option<Intake> {
+        Some(Intake {
+            have: self.number(2)? as u16,
+            sum: self.number(2)? as u16,
         })
     }
 

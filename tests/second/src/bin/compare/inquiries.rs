@@ -4,7 +4,7 @@ use crate::board::Board;
 use crate::lent::{self, packet, room};
 
 /// Every way to be refused, and the four pages and standard data served.
-fn commands() -> Vec<Vec<u8>> {
+pub fn commands() -> Vec<Vec<u8>> {
     let mut all = vec![vec![], vec![0x12], vec![0x12, 0x03, 0x00, 0x00, 0xFF]];
     all.extend([vec![0x00], vec![0x13; 6], vec![0xA1; 12], vec![0x85, 0x01]]);
     for byte_1 in 0..4 {

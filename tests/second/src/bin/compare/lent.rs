@@ -1,7 +1,7 @@
 //! Pieces that the inputs are made of: blocks, signatures, texts, records.
 
 use crate::call::{self, Call};
-use second::{Order, Record};
+use second::{Intake, Order, Record};
 
 /// Fills lent room before a call, so that a written byte is seen.
 pub const FILL: u8 = 0xA5;
@@ -152,6 +152,26 @@ pub fn read(page: &[u8]) -> Call {
 /// A roll with room for so many rows.
 pub fn roll(blocks: &[u8], rows: usize) -> Call {
     Call::new(call::ROLL, vec![blocks.to_vec(), room(2 * rows)])
+}
+
+/// A run for an intake with this store.
+pub fn take(intake: Intake, store: &[u8], run: &[u8]) -> Call {
+    Call::new(call::INTAKE_TAKE, vec![store.to_vec(), run.to_vec()]).intake(intake)
+}
+
+/// An INQUIRY made one with an intake's block; the store is the call's block.
+pub fn from_intake(mut call: Call, have: u16) -> Call {
+    call.function = call::INTAKE_INQUIRY;
+    call.pieces.swap(0, 1);
+    call.intake(Intake { have, sum: 0 })
+}
+
+/// A roll of what is gathered of intakes with these stores, with room for so
+/// many bytes and rows.
+pub fn intake_roll(haves: &[u16], stores: &[u8], space: usize, rows: usize) -> Call {
+    let haves = haves.iter().flat_map(|have| have.to_le_bytes()).collect();
+    let pieces = vec![haves, stores.to_vec(), room(space), room(2 * rows)];
+    Call::new(call::INTAKE_ROLL, pieces)
 }
 
 /// The page 83h that a block has.

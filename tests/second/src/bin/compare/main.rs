@@ -13,6 +13,7 @@ mod applies;
 mod board;
 mod call;
 mod inquiries;
+mod intakes;
 mod lent;
 mod numbers;
 mod orders;
@@ -28,7 +29,7 @@ use std::io;
 use std::process::ExitCode;
 
 const SEED: u64 = 33_553_920;
-const CALLS: u64 = 3_000_000;
+const CALLS: u64 = 3_300_000;
 
 struct Asked {
     seed: u64,
@@ -109,7 +110,7 @@ fn real_blocks(folder: &str) -> io::Result<Vec<Vec<u8>>> {
 /// A class of inputs that takes nothing but the board.
 type Inputs = fn(&mut Board);
 
-const CLASSES: [(&str, Inputs); 23] = [
+const CLASSES: [(&str, Inputs); 28] = [
     ("soundings C1 to C13", soundings::numbered),
     ("the other soundings", soundings::others),
     (
@@ -139,6 +140,14 @@ const CLASSES: [(&str, Inputs); 23] = [
     ("page 83h: every byte damaged", pages::damaged),
     ("page 83h: cut, extended, mixed", pages::resized),
     ("roll: sizes and rows", rolls::sizes),
+    ("intake: runs that end around byte 512", intakes::runs),
+    ("intake: claims and stores", intakes::claims_and_stores),
+    (
+        "intake: inquiry, refusals alone and together",
+        intakes::refusals,
+    ),
+    ("intake: inquiry, pages of every block", intakes::pages),
+    ("intake: rolls, sizes and rows", intakes::roll_sizes),
 ];
 
 fn pages_written(board: &mut Board) {
@@ -158,7 +167,11 @@ fn run(asked: Asked) -> io::Result<bool> {
         board.class(name);
         inputs(&mut board);
     }
-    let agree = board.is_done() || seeded(&mut board, &asked);
+    let agreed = if board.is_done() {
+        Agreed::default()
+    } else {
+        seeded(&mut board, &asked)
+    };
     let found = board.finish()?;
     let mut report = Report::default();
     for (class, differences) in board.classes.iter().zip(&found) {
@@ -171,7 +184,7 @@ fn run(asked: Asked) -> io::Result<bool> {
         report.check(*differences == 0, &text);
     }
     if !asked.first {
-        coverage(&board, agree, &mut report);
+        coverage(&board, &agreed, &mut report);
         let calls: u64 = board.classes.iter().map(|class| class.calls).sum();
         println!("calls: {calls}, differences: {}", found.iter().sum::<u64>());
     }
@@ -182,15 +195,27 @@ fn run(asked: Asked) -> io::Result<bool> {
     Ok(report.failed == 0)
 }
 
-/// The classes that take a seed or the real blocks. Back: whether rows and
-/// pages agreed.
-fn seeded(board: &mut Board, asked: &Asked) -> bool {
+/// What the second program's own answers show.
+#[derive(Default)]
+struct Agreed {
+    /// Rows and pages 83h.
+    pages: bool,
+    /// Divided streams and single runs.
+    streams: bool,
+}
+
+/// The classes that take a seed or the real blocks.
+fn seeded(board: &mut Board, asked: &Asked) -> Agreed {
     board.class("roll: planted twins");
     rolls::twins(board, asked.seed);
     board.class("roll: one byte differs");
     rolls::one_byte(board);
     board.class("roll: rows and pages 83h");
-    let agree = rolls::pages_agree(board, asked.seed);
+    let pages = rolls::pages_agree(board, asked.seed);
+    board.class("intake: divided streams");
+    let streams = intakes::divided(board, &asked.real, asked.seed);
+    board.class("intake: rolls, planted twins");
+    intakes::roll_twins(board, asked.seed);
     board.class("real drives");
     soundings::real_drives(board, &asked.real);
     board.class("sequences through one record");
@@ -199,7 +224,7 @@ fn seeded(board: &mut Board, asked: &Asked) -> bool {
         board.class("random and damaged inputs");
         random::calls(board, asked.seed, asked.calls, &asked.real);
     }
-    agree
+    Agreed { pages, streams }
 }
 
 #[derive(Default)]
@@ -220,10 +245,14 @@ impl Report {
 }
 
 /// What was covered, and what the second program's own answers show.
-fn coverage(board: &Board, agree: bool, report: &mut Report) {
+fn coverage(board: &Board, agreed: &Agreed, report: &mut Report) {
     report.check(
-        agree,
+        agreed.pages,
         "roll: the same row exactly if the pages 83h are equal",
+    );
+    report.check(
+        agreed.streams,
+        "intake: a divided stream comes to what a single run gives",
     );
     report.check(
         cover(&board.counts),
@@ -233,11 +262,18 @@ fn coverage(board: &Board, agree: bool, report: &mut Report) {
         board.not_first == 0,
         "the first refusal that applies answered",
     );
-    for (at, numbers) in GIVEN.iter().enumerate().skip(1) {
+    for (at, numbers) in GIVEN.iter().enumerate() {
         let alone = |number: &usize| board.applied[at].contains(&(1 << number));
         let held = numbers[1..].iter().all(alone);
-        report.check(held, &format!("{}: each refusal alone", NAMES[at]));
+        if numbers.len() > 1 {
+            report.check(held, &format!("{}: each refusal alone", NAMES[at]));
+        }
     }
+    pairs_tried(board, report);
+}
+
+/// That the refusals that can apply together were tried so.
+fn pairs_tried(board: &Board, report: &mut Report) {
     for (function, pairs) in applies::PAIRS {
         let sets = &board.applied[usize::from(function)];
         let tried = |a: usize, b: usize| sets.iter().any(|set| set >> a & set >> b & 1 == 1);
@@ -253,7 +289,7 @@ fn coverage(board: &Board, agree: bool, report: &mut Report) {
 }
 
 /// The numbers that each function can give, as the header says.
-const GIVEN: [&[usize]; 7] = [
+const GIVEN: [&[usize]; 11] = [
     &[0],
     &[0, 1, 2, 3, 4, 5, 6, 7, 8],
     &[0, 1, 2, 3, 4, 9, 10, 11, 12, 13, 14],
@@ -261,6 +297,10 @@ const GIVEN: [&[usize]; 7] = [
     &[0, 1, 8],
     &[0, 16],
     &[0, 1],
+    &[0],
+    &[0, 1],
+    &[0, 1, 2, 3, 4, 5, 6, 7, 8],
+    &[0, 1, 8],
 ];
 
 /// Prints how often each number was given. Back: every one that can be was.

@@ -1,9 +1,10 @@
 //! Seeded random and damaged inputs of every function.
 
 use crate::board::Board;
-use crate::call::{Call, COMPLETE, INQUIRY, ROLL};
+use crate::call::{sixteen_bits, Call, COMPLETE, INQUIRY};
 use crate::lent;
 use crate::numbers::Numbers;
+use second::Intake;
 
 /// So many calls over all functions.
 pub fn calls(board: &mut Board, seed: u64, count: u64, real: &[Vec<u8>]) {
@@ -14,13 +15,16 @@ pub fn calls(board: &mut Board, seed: u64, count: u64, real: &[Vec<u8>]) {
         if board.is_done() {
             return;
         }
-        let mut call = match numbers.below(100) {
+        let mut call = match numbers.below(110) {
             0..=39 => submit(&mut numbers),
             40..=55 => complete(&mut numbers),
             56..=76 => inquiry(&mut numbers, &known),
             77..=86 => read(&mut numbers, &known),
             87..=97 => write(&mut numbers, &known),
-            _ => roll(&mut numbers, &known),
+            98..=99 => roll(&mut numbers, &known),
+            100..=105 => take(&mut numbers, &known),
+            106..=108 => intake_inquiry(&mut numbers, &known),
+            _ => intake_roll(&mut numbers, &known),
         };
         if numbers.once_in(3) {
             damage(&mut call, &mut numbers);
@@ -44,8 +48,9 @@ fn damage(call: &mut Call, numbers: &mut Numbers) {
             piece.extend(numbers.bytes(more));
         }
     }
-    if call.function == ROLL && call.pieces[1].len() % 2 == 1 {
-        call.pieces[1].pop();
+    for &at in sixteen_bits(call.function) {
+        let whole = call.pieces[at].len() & !1;
+        call.pieces[at].truncate(whole);
     }
 }
 
@@ -200,10 +205,18 @@ fn write(numbers: &mut Numbers, known: &[Vec<u8>]) -> Call {
 }
 
 fn roll(numbers: &mut Numbers, known: &[Vec<u8>]) -> Call {
+    let blocks = blocks(numbers, known);
+    let mut call = lent::roll(&blocks.concat(), 0);
+    let rows = blocks.len() + numbers.below(3);
+    call.pieces[1] = numbers.bytes(2 * rows);
+    call
+}
+
+/// Up to 66 blocks, mostly few, with drives that come again.
+fn blocks(numbers: &mut Numbers, known: &[Vec<u8>]) -> Vec<Vec<u8>> {
     let most = if numbers.once_in(10) { 67 } else { 9 };
-    let count = numbers.below(most);
     let mut blocks: Vec<Vec<u8>> = Vec::new();
-    for at in 0..count {
+    for at in 0..numbers.below(most) {
         if at > 0 && numbers.once_in(2) {
             let twin = blocks[numbers.below(at)].clone();
             blocks.push(twin);
@@ -213,8 +226,66 @@ fn roll(numbers: &mut Numbers, known: &[Vec<u8>]) -> Call {
             blocks.push(block(numbers, known));
         }
     }
-    let mut call = lent::roll(&blocks.concat(), 0);
-    let rows = count + numbers.below(3);
-    call.pieces[1] = numbers.bytes(2 * rows);
+    blocks
+}
+
+/// What an intake has: mostly it is complete, or nearly.
+fn have(numbers: &mut Numbers) -> u16 {
+    match numbers.below(8) {
+        0 => numbers.next() as u16,
+        1 | 2 => numbers.below(514) as u16,
+        3 => 509 + numbers.below(5) as u16,
+        _ => 512,
+    }
+}
+
+fn take(numbers: &mut Numbers, known: &[Vec<u8>]) -> Call {
+    let have = match numbers.below(2) {
+        0 => have(numbers),
+        _ => numbers.below(513) as u16,
+    };
+    let sum = match numbers.below(2) {
+        0 => numbers.next() as u16,
+        _ => u16::from(numbers.byte()),
+    };
+    let rest = 512_usize.saturating_sub(usize::from(have));
+    let size = match numbers.below(4) {
+        0 => rest + numbers.below(3),
+        1 => numbers.below(1100),
+        _ => numbers.below(80),
+    };
+    lent::take(
+        Intake { have, sum },
+        &block(numbers, known),
+        &numbers.bytes(size),
+    )
+}
+
+fn intake_inquiry(numbers: &mut Numbers, known: &[Vec<u8>]) -> Call {
+    let mut call = inquiry(numbers, known);
+    if call.pieces[1].is_empty() && !numbers.once_in(4) {
+        call.pieces[1] = block(numbers, known);
+    }
+    let sum = numbers.next() as u16;
+    let mut call = lent::from_intake(call, have(numbers));
+    call.intake.sum = sum;
+    call
+}
+
+fn intake_roll(numbers: &mut Numbers, known: &[Vec<u8>]) -> Call {
+    let stores = blocks(numbers, known);
+    let haves: Vec<u16> = (0..stores.len())
+        .map(|_| match numbers.below(40) {
+            0 => have(numbers),
+            1..=8 => numbers.below(512) as u16,
+            _ => 512,
+        })
+        .collect();
+    let complete = haves.iter().filter(|&&have| have == 512).count();
+    let mut call = lent::intake_roll(&haves, &stores.concat(), 0, 0);
+    let space = (512 * complete + numbers.pick(&[0, 1, 512])).saturating_sub(numbers.below(8) / 7);
+    call.pieces[2] = numbers.bytes(space);
+    let rows = complete + numbers.below(3);
+    call.pieces[3] = numbers.bytes(2 * rows);
     call
 }

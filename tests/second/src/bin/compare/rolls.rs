@@ -5,7 +5,7 @@ use crate::lent;
 use crate::numbers::Numbers;
 
 /// 64 different drives: by name, by model, by serial, or by one byte alone.
-fn different() -> Vec<Vec<u8>> {
+pub fn different() -> Vec<Vec<u8>> {
     (0..64_u8)
         .map(|at| {
             let mut block = lent::text_block();
@@ -21,7 +21,7 @@ fn different() -> Vec<Vec<u8>> {
 }
 
 /// Changes that leave a drive the same: other words, and zeros for spaces.
-fn twin(block: &[u8], numbers: &mut Numbers) -> Vec<u8> {
+pub fn twin(block: &[u8], numbers: &mut Numbers) -> Vec<u8> {
     let mut twin = block.to_vec();
     let named = twin[216..224].iter().any(|&byte| byte != 0);
     for at in (0..512).filter(|at| !(216..224).contains(at)) {

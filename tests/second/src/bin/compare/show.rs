@@ -39,6 +39,7 @@ fn describe(call: &Call) -> String {
     let at = usize::from(call.function);
     let mut text = format!("  piongseut_{}\n", NAMES[at]);
     text += &format!("    declared {}, {:X?}\n", call.declared, call.record);
+    text += &format!("    {:?}\n", call.intake);
     for (name, piece) in PIECES[at].iter().zip(&call.pieces) {
         text += &format!("    {} ({} bytes) {}\n", name, piece.len(), hex(piece));
     }
@@ -54,28 +55,7 @@ fn readable(call: &Call, answer: &[u8]) -> Option<String> {
     let mut from = Bytes(answer);
     from.take(5)?;
     let guard = from.number(1)?;
-    let mut text = match call.function {
-        call::EMPTY => format!("{:X?}", from.record()?),
-        call::INQUIRY => {
-            let (number, status) = (from.number(1)?, from.number(1)?);
-            let (shown, count) = (from.number(1)?, from.number(8)?);
-            format!("number {number} status {status:02X} shown {shown} count {count}")
-        }
-        call::SUBMIT => {
-            let (number, status) = (from.number(1)?, from.number(1)?);
-            format!("number {number} status {status:02X} {:X?}", from.order()?)
-        }
-        call::COMPLETE => format!("number {} status {:02X}", from.number(1)?, from.number(1)?),
-        call::WRITE => format!("number {} count {}", from.number(1)?, from.number(8)?),
-        call::READ => {
-            let (number, form) = (from.number(1)?, from.number(1)?);
-            format!("number {number} form {form} name {}", hex(from.take(60)?))
-        }
-        _ => {
-            let (number, blocks) = (from.number(1)?, from.number(2)?);
-            format!("number {number} blocks {blocks} drives {}", from.number(2)?)
-        }
-    };
+    let mut text = came_back(call.function, &mut from)?;
     if guard != 0 {
         text += &format!(", GUARD CHANGED at {guard}");
     }
@@ -86,4 +66,55 @@ fn readable(call: &Call, answer: &[u8]) -> Option<String> {
         text += &format!("\n    {name} {word} {}", hex(after));
     }
     Some(text)
+}
+
+/// The fields of what came back.
+fn came_back(function: u8, from: &mut Bytes) -> Option<String> {
+    Some(match function {
+        call::EMPTY => format!("{:X?}", from.record()?),
+        call::INQUIRY => inquiry(from)?,
+        call::SUBMIT => {
+            let (number, status) = (from.number(1)?, from.number(1)?);
+            format!("number {number} status {status:02X} {:X?}", from.order()?)
+        }
+        call::COMPLETE => format!("number {} status {:02X}", from.number(1)?, from.number(1)?),
+        call::WRITE => counted(from)?,
+        call::READ => {
+            let (number, form) = (from.number(1)?, from.number(1)?);
+            format!("number {number} form {form} name {}", hex(from.take(60)?))
+        }
+        call::INTAKE_EMPTY => format!("{:?}", from.intake()?),
+        call::INTAKE_TAKE => {
+            let (next, used) = (from.intake()?, from.number(2)?);
+            let (number, complete) = (from.number(1)?, from.number(1)?);
+            format!("number {number} used {used} complete {complete} {next:?}")
+        }
+        call::INTAKE_INQUIRY => format!("block: {}; {}", counted(from)?, inquiry(from)?),
+        call::INTAKE_ROLL => format!("gathered: {}; {}", counted(from)?, roll(from)?),
+        _ => roll(from)?,
+    })
+}
+
+fn counted(from: &mut Bytes) -> Option<String> {
+    Some(format!(
+        "number {} count {}",
+        from.number(1)?,
+        from.number(8)?
+    ))
+}
+
+fn inquiry(from: &mut Bytes) -> Option<String> {
+    let (number, status) = (from.number(1)?, from.number(1)?);
+    let (shown, count) = (from.number(1)?, from.number(8)?);
+    Some(format!(
+        "number {number} status {status:02X} shown {shown} count {count}"
+    ))
+}
+
+fn roll(from: &mut Bytes) -> Option<String> {
+    let (number, blocks) = (from.number(1)?, from.number(2)?);
+    Some(format!(
+        "number {number} blocks {blocks} drives {}",
+        from.number(2)?
+    ))
 }

@@ -1,0 +1,201 @@
+//! The intake (request L6): IDENTIFY data taken as it comes off the wire. What
+//! is quoted stands in request L6 of document 02 or, where that is said, in
+//! the words of the C header.
+
+use crate::{fault, refusal};
+
+/// "reports complete at byte 512"
+const BLOCK: usize = 512;
+
+/// An intake without its store, which the caller keeps: how many of the
+/// store's bytes it has, and their sum. The store's bytes past them mean
+/// nothing.
+#[derive(Clone, Copy, Debug, Default, PartialEq, Eq)]
+pub struct Intake {
+    pub have: u16,
+    pub sum: u16,
+}
+
+/// What taking a run came to.
+#[derive(Clone, Copy, Debug, PartialEq, Eq)]
+pub struct RunTaken {
+    pub next: Intake,
+    pub used: u16,
+    pub number: u8,
+    pub complete: u8,
+}
+
+/// How many bytes, from the front, are blocks.
+#[derive(Clone, Copy, Debug, PartialEq, Eq)]
+pub struct Counted {
+    pub number: u8,
+    pub count: usize,
+}
+
+fn counted(count: usize) -> Counted {
+    Counted {
+        number: refusal::ACCEPTED,
+        count,
+    }
+}
+
+fn refused(number: u8) -> Counted {
+    Counted { number, count: 0 }
+}
+
+/// An intake that has nothing.
+pub fn intake_empty() -> Intake {
+    Intake { have: 0, sum: 0 }
+}
+
+/// Takes a run: "takes runs one after another, zero-length runs too, holds
+/// what it has, and reports complete at byte 512 together with how many bytes
+/// of the run it used".
+pub fn intake_take(intake: Intake, store: &mut [u8], run: &[u8]) -> RunTaken {
+    if !is_right(intake.have, store.len()) || fault::planted("intake-refuses-all") {
+        return RunTaken {
+            next: intake,
+            used: 0,
+            number: refusal::SIZE,
+            complete: 0,
+        };
+    }
+    let have = had(intake);
+    // "the stream's first 512 bytes in their order, or all of a shorter one"
+    let used = run.len().min(BLOCK - have);
+    write(store, have, &run[..used]);
+    let next = Intake {
+        have: (have + used) as u16,
+        sum: counted_on(intake.sum, summed(run, used)),
+    };
+    RunTaken {
+        next,
+        used: reported(run, used),
+        number: refusal::ACCEPTED,
+        complete: u8::from(usize::from(next.have) == BLOCK),
+    }
+}
+
+/// Refusal 1: "An intake that claims more than 512 bytes", and a store that is
+/// not of 512 bytes (the header).
+fn is_right(have: u16, store_size: usize) -> bool {
+    store_size == BLOCK && usize::from(have) <= BLOCK
+}
+
+/// What the intake has: "after that [completion] it uses nothing until
+/// emptied". The planted fault begins again at a complete one.
+fn had(intake: Intake) -> usize {
+    let have = usize::from(intake.have);
+    if fault::planted("intake-takes-after-completion") && have == BLOCK {
+        return 0;
+    }
+    have
+}
+
+/// "only those [bytes] that the run's bytes go to are written" (the header).
+fn write(store: &mut [u8], have: usize, bytes: &[u8]) {
+    let start = if fault::planted("intake-stores-at-the-start") {
+        0
+    } else {
+        have
+    };
+    if !fault::planted("intake-writes-nothing") {
+        store[start..start + bytes.len()].copy_from_slice(bytes);
+    }
+}
+
+/// The bytes that are summed: those used.
+fn summed(run: &[u8], used: usize) -> &[u8] {
+    if fault::planted("intake-sums-past-512") {
+        return run;
+    }
+    &run[..used]
+}
+
+/// The sum modulo 256, "counted on from the sum that was handed in" (the
+/// header), whatever that was.
+fn counted_on(sum: u16, bytes: &[u8]) -> u16 {
+    let total = bytes
+        .iter()
+        .fold(u64::from(sum), |total, &byte| total + u64::from(byte));
+    (total % 256) as u16
+}
+
+fn reported(run: &[u8], used: usize) -> u16 {
+    if fault::planted("intake-reports-the-whole-run") {
+        return run.len() as u16;
+    }
+    used as u16
+}
+
+/// How many bytes of its store are an intake's block: "Until complete it gives
+/// 0 bytes as its block". The caller lends them to INQUIRY.
+pub fn block_size(intake: Intake, store_size: usize) -> Counted {
+    let have = usize::from(intake.have);
+    let asked_to_be_complete = fault::planted("block-refuses-until-complete") && have != BLOCK;
+    if !is_right(intake.have, store_size) || asked_to_be_complete {
+        return refused(refusal::SIZE);
+    }
+    if fault::planted("block-of-what-it-has") {
+        return counted(have);
+    }
+    let nearly = fault::planted("intake-gives-a-partial-block") && have == BLOCK - 1;
+    counted(if have == BLOCK || nearly { BLOCK } else { 0 })
+}
+
+/// Gathers the blocks of a run of intakes in the room: "the stores of those
+/// that are complete, in their order", which "come to stand one after the
+/// other; the rest of it is untouched" (the header). The caller lends them to
+/// the roll. A refusal writes nothing.
+pub fn gather(haves: &[u16], stores: &[u8], room: &mut [u8]) -> Counted {
+    // 1: "stores of another size than 512 bytes an intake; an intake that
+    // claims more than 512" (the header)
+    let claims_too_much = |&have: &u16| usize::from(have) > BLOCK;
+    if stores.len() != BLOCK * haves.len() || haves.iter().any(claims_too_much) {
+        return refused(refusal::SIZE);
+    }
+    let blocks = blocks_of(haves, stores);
+    if fault::planted("gather-limits-to-64") && blocks.len() > 64 * BLOCK {
+        return refused(refusal::SIZE);
+    }
+    // 8: "room below the blocks" (the header)
+    if room.len() < blocks.len() {
+        spoil_refused(&blocks, room);
+        return refused(refusal::ROOM);
+    }
+    room[..blocks.len()].copy_from_slice(&blocks);
+    spoil(haves, blocks.len(), room)
+}
+
+/// The complete intakes' blocks, one behind the other.
+fn blocks_of(haves: &[u16], stores: &[u8]) -> Vec<u8> {
+    let mut blocks = Vec::new();
+    for (store, &have) in stores.chunks(BLOCK).zip(haves) {
+        let held = fault::planted("gather-takes-incomplete-stores") && have > 0;
+        if usize::from(have) == BLOCK || held {
+            blocks.extend(store);
+        }
+    }
+    blocks
+}
+
+/// The planted fault of a room that is too small: as much as fits is written.
+fn spoil_refused(blocks: &[u8], room: &mut [u8]) {
+    if fault::planted("gather-fills-a-small-room") {
+        room.copy_from_slice(&blocks[..room.len()]);
+    }
+}
+
+/// The answer, and its planted faults.
+fn spoil(haves: &[u16], size: usize, room: &mut [u8]) -> Counted {
+    if fault::planted("gather-clears-the-rest") {
+        room[size..].fill(0);
+    }
+    if fault::planted("gather-counts-blocks") {
+        return counted(size / BLOCK);
+    }
+    if fault::planted("gather-counts-every-store") {
+        return counted(room.len().min(BLOCK * haves.len()));
+    }
+    counted(size)
+}
