@@ -1,6 +1,7 @@
 /*
  * Makes each measured call to the board and to the same work in plain Rust (bench/plain.rs, where there is a compiler for it),
- * and beside them a bare copy of as many bytes as the call delivers. bench/run counts and prints what comes of it.
+ * and beside them a bare copy of as many bytes as the call delivers, with their sum where the call sums them too. bench/run
+ * counts and prints what comes of it.
  *   measure count FILE   makes each call once, for a tool that counts instructions; a line a call: its name, target and stack
  *   measure time FILE    a line a call: nanoseconds of the board, of plain Rust and of the copy
  * FILE holds an IDENTIFY block. Where board and plain Rust differ, a line says so and the exit status is 1.
@@ -13,7 +14,7 @@
 #include <string.h>
 #include <time.h>
 
-enum { BATCHES = 20, BATCH = 10000, ROLL_BATCH = 10 };
+enum { BATCHES = 20, BATCH = 10000, LONG_BATCH = 10 };
 
 typedef struct {
     __typeof__(piongseut_empty) *empty;
@@ -23,9 +24,13 @@ typedef struct {
     __typeof__(piongseut_write_page83) *write;
     __typeof__(piongseut_read_page83) *read;
     __typeof__(piongseut_roll) *roll;
+    __typeof__(piongseut_intake_take) *take;
+    __typeof__(piongseut_intake_gather) *gather;
 } maker;
 
-#define MAKER(by) {by##_empty, by##_inquiry, by##_submit, by##_complete, by##_write_page83, by##_read_page83, by##_roll}
+#define MAKER(by)                                                                                                 \
+    {by##_empty, by##_inquiry, by##_submit, by##_complete, by##_write_page83, by##_read_page83, by##_roll,        \
+     by##_intake_take, by##_intake_gather}
 static const maker board = MAKER(piongseut);
 #ifdef PLAIN
 __typeof__(piongseut_empty) plain_empty;
@@ -35,6 +40,8 @@ __typeof__(piongseut_complete) plain_complete;
 __typeof__(piongseut_write_page83) plain_write_page83;
 __typeof__(piongseut_read_page83) plain_read_page83;
 __typeof__(piongseut_roll) plain_roll;
+__typeof__(piongseut_intake_take) plain_intake_take;
+__typeof__(piongseut_intake_gather) plain_intake_gather;
 static const maker plain_maker = MAKER(plain), *const plain = &plain_maker;
 #else
 static const maker *const plain = NULL;
@@ -47,7 +54,7 @@ typedef struct {
     piongseut_pending record;
     uint8_t name[60];
     uint16_t rows[64];
-    _Alignas(64) uint8_t room[1024];
+    _Alignas(64) uint8_t room[64 * 512];
     _Alignas(64) uint8_t sense[32];
 } left;
 
@@ -59,16 +66,20 @@ typedef void make(const measured *, const maker *, left *);
 struct measured {
     const char *name;
     unsigned target;     /* instructions, 0 where none is set */
-    size_t bytes;        /* what the call delivers: reply, sense bytes, order, record, name, rows */
+    size_t bytes;        /* what the call delivers: reply, sense bytes, order, record, name, rows, a run, blocks */
     make *make;
     unsigned how;
     uint8_t command[16];
 };
 
-/* How a call is made: for a drive without a name, for a packet drive, with an order pending, with one that asks for registers. */
-enum { TEXTS = 1, PACKET = 2, HELD = 4, CK_COND = 8 };
+/*
+ * How a call is made: for a drive without a name, for a packet drive, with an order pending, with one that asks for registers,
+ * with an intake that has a part of its block.
+ */
+enum { TEXTS = 1, PACKET = 2, HELD = 4, CK_COND = 8, PART = 16 };
 
 static _Alignas(64) uint8_t block[512], blocks[64 * 512], page[76];
+static uint16_t haves[64];
 static uint8_t signature[20], texts[28], reply[7] = {5, 0, 0, 3, 0, 0x80, 0x83}, registers[11];
 static size_t page_size; /* of the page that was written last; it is the one to be read */
 
@@ -129,16 +140,44 @@ static void make_roll(const measured *one, const maker *by, left *to)
     SAID(to, answer.number, answer.blocks, answer.drives);
 }
 
+/* The run is of as many bytes as the call delivers. The store is at the room's start. */
+static void make_take(const measured *one, const maker *by, left *to)
+{
+    const piongseut_intake intake = {one->how & PART ? 256 : 0, 0};
+    piongseut_intake_answer answer;
+    STACK_CALL(answer = by->take(intake, to->room, 512, block, one->bytes));
+    SAID(to, (uint64_t)answer.next.have << 16 | answer.next.sum, answer.used, answer.number, answer.complete);
+}
+
+static void make_gather(const measured *one, const maker *by, left *to)
+{
+    piongseut_intake_count gathered;
+    (void)one;
+    STACK_CALL(gathered = by->gather(haves, 64, blocks, sizeof blocks, to->room, sizeof to->room));
+    SAID(to, gathered.number, gathered.count);
+}
+
 __attribute__((noinline)) void bare_copy(uint8_t *to, const uint8_t *from, size_t count)
 {
     memcpy(to, from, count);
 }
 
-/* The least that delivers the same number of bytes, whoever makes them. */
+/* At O3, which sums 16 bytes at a time: at O2 gcc takes them one by one, and that is far from the least. */
+__attribute__((noinline, optimize("O3"))) uint8_t bare_copy_and_sum(uint8_t *to, const uint8_t *from, size_t count)
+{
+    uint8_t sum = 0;
+    memcpy(to, from, count);
+    for (size_t i = 0; i < count; i++)
+        sum = (uint8_t)(sum + from[i]);
+    return sum;
+}
+
+/* The least that delivers the same number of bytes, whoever makes them; a run into an intake is summed too. */
 static void make_copy(const measured *one, const maker *by, left *to)
 {
     (void)by;
-    STACK_CALL(bare_copy(to->room, blocks, one->bytes));
+    if (one->make == make_take) STACK_CALL(to->said[0] = bare_copy_and_sum(to->room, blocks, one->bytes));
+    else STACK_CALL(bare_copy(to->room, blocks, one->bytes));
 }
 
 static const measured calls[] = {
@@ -164,6 +203,9 @@ static const measured calls[] = {
     {"read page 83h, texts", 0, 60, make_read, 0, {0}},
     {"roll, 64 drives, names", 0, 128, make_roll, 0, {0}},
     {"roll, 64 drives, texts", 0, 128, make_roll, TEXTS, {0}},
+    {"intake, block in one run", 0, 512, make_take, 0, {0}},
+    {"intake, run of 8 bytes", 0, 8, make_take, PART, {0}},
+    {"gather, 64 intakes", 0, sizeof blocks, make_gather, 0, {0}},
 };
 
 /* ---- Before and after a call ---- */
@@ -186,6 +228,7 @@ static void prepare(const measured *one, left *to)
         memcpy(blocks + 512 * i, block, 512);
         blocks[512 * i + 21] = (uint8_t)(i + 1);
         blocks[512 * i + 222] = one->how & TEXTS ? 0 : (uint8_t)(i + 1);
+        haves[i] = 512;
     }
     memset(to, 0, sizeof *to);
     to->record = record_for(one);
@@ -228,7 +271,7 @@ static double now(void)
 static double batch(const measured *one, make *make, const maker *by, left *to)
 {
     const piongseut_pending record = record_for(one);
-    const int size = one->make == make_roll ? ROLL_BATCH : BATCH;
+    const int size = one->make == make_roll || one->make == make_gather ? LONG_BATCH : BATCH;
     double start = now();
     for (int i = 0; i < size; i++) {
         to->record = record;

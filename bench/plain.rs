@@ -77,6 +77,26 @@ pub struct RollAnswer {
     drives: u16,
 }
 
+#[repr(C)]
+pub struct Intake {
+    have: u16,
+    sum: u16,
+}
+
+#[repr(C)]
+pub struct IntakeAnswer {
+    next: Intake,
+    used: u16,
+    number: u8,
+    complete: u8,
+}
+
+#[repr(C)]
+pub struct IntakeCount {
+    number: u8,
+    count: usize,
+}
+
 // ---- Sense ----
 
 const FIELD: [u8; 3] = [0x05, 0x24, 0x00];
@@ -385,6 +405,32 @@ fn roll(bytes: &[u8], rows: &mut [u16]) -> Option<(u16, u16)> {
     Some(((bytes.len() / 512) as u16, drives))
 }
 
+// ---- The intake ----
+
+/// What the intake has after the run, with the sum, and how many bytes of the run it used.
+fn take(intake: &Intake, store: &mut [u8], run: &[u8]) -> Option<(Intake, u16)> {
+    let store: &mut Block = store.try_into().ok()?;
+    let free = store.get_mut(intake.have.into()..)?;
+    let run = &run[..run.len().min(free.len())];
+    free[..run.len()].copy_from_slice(run);
+    let sum = run.iter().fold(intake.sum as u8, |sum, &byte| sum.wrapping_add(byte));
+    let used = run.len() as u16;
+    Some((Intake { have: intake.have + used, sum: sum.into() }, used))
+}
+
+/// Copies the stores of the complete intakes, and gives the number of their bytes.
+fn gather(haves: &[u16], stores: &[u8], room: &mut [u8]) -> Result<usize, u8> {
+    if stores.len() % 512 != 0 || stores.len() / 512 != haves.len() || haves.iter().any(|&have| have > 512) {
+        return Err(1);
+    }
+    let complete = stores.chunks_exact(512).zip(haves).filter(|(_, &have)| have == 512);
+    let room = room.get_mut(..512 * complete.clone().count()).ok_or(8)?;
+    for (place, (store, _)) in room.chunks_exact_mut(512).zip(complete) {
+        place.copy_from_slice(store);
+    }
+    Ok(room.len())
+}
+
 // ---- The C calls. Each lends its pieces for as many bytes as the numbers behind the pointers say. ----
 
 use std::slice::{from_raw_parts as lent, from_raw_parts_mut as lent_mut};
@@ -470,5 +516,29 @@ pub unsafe extern "C" fn plain_roll(blocks: *const u8, blocks_size: usize, rows:
     match roll(lent(blocks, blocks_size), lent_mut(rows, rows_size)) {
         Some((blocks, drives)) => RollAnswer { number: 0, blocks, drives },
         None => RollAnswer { number: 1, blocks: 0, drives: 0 },
+    }
+}
+
+/// # Safety
+/// As the header says of piongseut_intake_take.
+#[no_mangle]
+pub unsafe extern "C" fn plain_intake_take(
+    intake: Intake, store: *mut u8, store_size: usize, run: *const u8, run_size: usize,
+) -> IntakeAnswer {
+    match take(&intake, lent_mut(store, store_size), lent(run, run_size)) {
+        Some((next, used)) => IntakeAnswer { complete: (next.have == 512).into(), next, used, number: 0 },
+        None => IntakeAnswer { next: intake, used: 0, number: 1, complete: 0 },
+    }
+}
+
+/// # Safety
+/// As the header says of piongseut_intake_gather.
+#[no_mangle]
+pub unsafe extern "C" fn plain_intake_gather(
+    haves: *const u16, intake_count: usize, stores: *const u8, stores_size: usize, room: *mut u8, room_size: usize,
+) -> IntakeCount {
+    match gather(lent(haves, intake_count), lent(stores, stores_size), lent_mut(room, room_size)) {
+        Ok(count) => IntakeCount { number: 0, count },
+        Err(number) => IntakeCount { number, count: 0 },
     }
 }
