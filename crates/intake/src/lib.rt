@@ -2,8 +2,7 @@
 // specs/Intake; proofs/Stream has what it says of a stream that is divided.
 ghost use mathlib.Core.Path.{_≡_};
 ghost use mathlib.Core.List.{List};
-ghost use Prim.Native.Nat.{_+_, _%_, _<_, _≤_};
-ghost use lib.ListN.{length};
+ghost use Prim.Native.Nat.{_+_, _%_};
 ghost use Rattle.intake.specs.Intake.{empty as Intake·empty, wrongIntake, sumOf, flag as Intake·flag, answer, outcome, taken, blockOf, offered as Intake·offered};
 
 // What an intake has: how many bytes, in the front of its store, and their sum modulo 256.
@@ -37,23 +36,14 @@ pub fn wrong(intake: Intake, store: usize) -> bool
     (store != 512) | (512 < intake.have)
 }
 
-fn wide(byte: u8) -> u32
-    ensures value { λ r. ⌜ r ≡ byte ⌝ }
-    ensures small { λ r. ⌜ r < 256 ⌝ }
+// The sum of bytes, modulo 256.
+fn total(bytes: &[u8]) -> u8
+    ensures { λ r. ⌜ r ≡ sumOf (now (bytes .entry)) % 256 ⌝ }
 {
-    byte as u32
-}
-
-// The sum of bytes.
-fn total(bytes: &[u8]) -> u32
-    requires { ⌜ length (now bytes) ≤ 512 ⌝ }
-    ensures value { λ r. ⌜ r ≡ sumOf (now (bytes .entry)) ⌝ }
-    ensures small { λ r. ⌜ r ≤ 130560 ⌝ }
-{
-    let mut sum: u32 = 0;
+    let mut sum: u8 = 0;
     let mut i = 0;
     while i < bytes.len() {
-        sum += wide(bytes[i]);
+        sum = std::num::wrapping_add_u8(sum, bytes[i]);
         i += 1;
     }
     sum
@@ -61,10 +51,9 @@ fn total(bytes: &[u8]) -> u32
 
 // A sum modulo 256, counted on over more bytes.
 fn carried(sum: u16, bytes: &[u8]) -> u16
-    requires { ⌜ length (now bytes) ≤ 512 ⌝ }
     ensures { λ r. ⌜ r ≡ (sum + sumOf (now (bytes .entry))) % 256 ⌝ }
 {
-    ((sum as u32 + total(bytes)) % 256) as u16
+    (sum % 256 + total(bytes) as u16) % 256
 }
 
 fn flag(set: bool) -> u8

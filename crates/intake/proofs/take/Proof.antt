@@ -3,7 +3,7 @@ use mathlib.Core.Path.{_≡_, _∙_, sym}
 use mathlib.Core.List.{List}
 use Prim.Native.Nat.{ℕ, _-_}
 use native.Mathlib.Omega.{arith}
-use lib.ListN.{length, take, length-take}
+use lib.ListN.{length, take}
 use lib.Seq.{length-take-le}
 use Rattle.intake.specs.Intake.{taken}
 use Rattle.intake.proofs.Laws.{right, take-least}
@@ -33,7 +33,7 @@ slice-aggregate-part : tie.Need-slice-aggregate-part
 slice-aggregate-part c = sym (length-take-le (c .before .lesser .result) (c .before .before .before .before .before .before .before .args .run .now) (omega (arith, c .before .lesser .ensures)))
 
 carried-requires : tie.Need-carried-requires
-carried-requires c κs = rw length-take (omega (arith, c .before .lesser .ensures))
+carried-requires c κs = search needs
 
 put-requires : tie.Need-put-requires
 put-requires c κs = search needs
