@@ -10,8 +10,9 @@ use lib.ListN.{length, take, drop, length-take}
 use lib.Seq.{drop-at, length-take-le}
 use borrow.Author.Tests.{ne-eqb}
 use Rattle.sense.specs.Refusal.{rowOf, refusedSense}
-use Rattle.inquiry.specs.Command.{allocation}
-use Rattle.inquiry.specs.Inquiry.{Request, Outcome, passesThrough, isPacket, refusalOf, refused, passed, served, toWrite, page, inquiry}
+use Rattle.request.specs.Command.{allocation}
+use Rattle.request.specs.Request.{Request, passesThrough, isPacket, refusalOf, toWrite, page}
+use Rattle.inquiry.specs.Inquiry.{Outcome, refused, passed, served, inquiry}
 
 -- "no reply passes the allocation length" (demand 1)
 pub within-allocation : (q : Request) (room sense : List ℕ) → inquiry q room sense .answer .count ≤ allocation (q .command)

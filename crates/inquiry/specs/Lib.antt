@@ -1,3 +1,2 @@
--- INQUIRY, as document 01 answers it: the command's fields, the entry.
-pub mod Command
+-- The INQUIRY entry, as document 01 has it.
 pub mod Inquiry

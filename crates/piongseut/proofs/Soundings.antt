@@ -6,7 +6,8 @@ use Rattle.identify.specs.Drive.{someBit, carriesName, equal}
 use Rattle.sense.specs.Sense.{senseData}
 use Rattle.sense.specs.Refusal.{rowOf, refusedSense}
 use Rattle.page83.specs.Page83.{page83}
-use Rattle.inquiry.specs.Inquiry.{page, inquiry, refusalOf as inquiryRefusal}
+use Rattle.request.specs.Request.{page, refusalOf as inquiryRefusal}
+use Rattle.inquiry.specs.Inquiry.{inquiry}
 use Rattle.command.specs.Length.{lengthOf}
 use Rattle.order.specs.Order.{orderOf}
 use Rattle.order.specs.Check.{refusalOf as submitRefusal}

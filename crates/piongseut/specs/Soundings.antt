@@ -6,7 +6,8 @@ use lib.Dec.{eqb}
 use lib.ListN.{length, drop, replicate}
 use Rattle.identify.specs.Drive.{equal}
 use Rattle.sense.specs.Refusal.{rowOf, refusedSense, good, checkCondition, none}
-use Rattle.inquiry.specs.Inquiry.{request, inquiry, Outcome}
+use Rattle.request.specs.Request.{request}
+use Rattle.inquiry.specs.Inquiry.{inquiry, Outcome}
 use Rattle.order.specs.declared.Order.{Order}
 use Rattle.order.specs.Order.{noOrder}
 use Rattle.pending.specs.Record.{empty}

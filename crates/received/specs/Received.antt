@@ -7,7 +7,8 @@ use lib.ListN.{length, take, drop}
 use Rattle.rules.specs.Checks.{_⇒_, first}
 use Rattle.room.specs.Room.{written}
 use Rattle.intake.specs.Intake.{wrongIntake, complete, blockOf}
-use Rattle.inquiry.specs.Inquiry.{request, refused, inquiry}
+use Rattle.request.specs.Request.{request}
+use Rattle.inquiry.specs.Inquiry.{refused, inquiry}
 use Rattle.inquiry.specs.Inquiry as Inquiry
 use Rattle.roll.specs.declared.Counted.{Counted}
 use Rattle.received.specs.declared.Gathered.{Gathered}

@@ -1,2 +1,0 @@
--- The laws of the entry's rules.
-pub mod Laws

@@ -1,0 +1,2 @@
+-- The laws of what is asked.
+pub mod Laws

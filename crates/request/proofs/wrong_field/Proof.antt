@@ -1,0 +1,54 @@
+-- `wrong_field`: each way by its tests.
+use mathlib.Core.Path.{_∙_, sym}
+use borrow.Author.Needs.{needs}
+use Rattle.request.proofs.wrong_field.Statement.{statement}
+use Rattle.request.proofs.wrong_field.Tie as tie
+
+returns : tie.Need-returns
+returns c = simp (c .if1 .taken)
+
+shared-slice-read-bit : tie.Need-shared-slice-read-bit
+shared-slice-read-bit c = search needs
+
+bit-requires : tie.Need-bit-requires
+bit-requires c κs = search needs
+
+returns-2 : tie.Need-returns-2
+returns-2 c = simp (sym (c .before .bit .ensures) ∙ c .if2 .taken, c .before .before .before .if1 .left)
+
+shared-slice-read-bit-2 : tie.Need-shared-slice-read-bit-2
+shared-slice-read-bit-2 c = search needs
+
+bit-requires-2 : tie.Need-bit-requires-2
+bit-requires-2 c κs = search needs
+
+returns-3 : tie.Need-returns-3
+returns-3 c = simp (sym (c .before .bit2 .ensures) ∙ c .if3 .taken, sym (c .before .before .before .before .bit .ensures) ∙ c .before .before .before .if2 .left, c .before .before .before .before .before .before .if1 .left)
+
+evpd-requires : tie.Need-evpd-requires
+evpd-requires c κs = search needs
+
+returns-4 : tie.Need-returns-4
+returns-4 c = simp (sym (c .before .evpd .ensures) ∙ c .if4 .taken, sym (c .before .before .before .bit2 .ensures) ∙ c .before .before .if3 .left, sym (c .before .before .before .before .before .before .bit .ensures) ∙ c .before .before .before .before .before .if2 .left, c .before .before .before .before .before .before .before .before .if1 .left)
+
+shared-slice-read-result : tie.Need-shared-slice-read-result
+shared-slice-read-result c = search needs
+
+returns-5 : tie.Need-returns-5
+returns-5 c = simp (sym (c .before .before .evpd .ensures) ∙ c .before .if4 .left, sym (c .before .before .before .before .bit2 .ensures) ∙ c .before .before .before .if3 .left, sym (c .before .before .before .before .before .before .before .bit .ensures) ∙ c .before .before .before .before .before .before .if2 .left, c .before .before .before .before .before .before .before .before .before .if1 .left)
+
+pub wrong-field-spec : {M : Type 1} → statement M
+wrong-field-spec =
+    tie.close
+    (tie.spec
+    returns
+    shared-slice-read-bit
+    bit-requires
+    returns-2
+    shared-slice-read-bit-2
+    bit-requires-2
+    returns-3
+    evpd-requires
+    returns-4
+    shared-slice-read-result
+    returns-5)
