@@ -8,6 +8,7 @@ use lib.Dec.{eqb}
 use lib.ListN.{length, getD, set}
 use lib.Seq.{getD-set-same, getD-set-other}
 use borrow.Author.Tests.{eqb-true, eqb-false, eq-eqb, ne-eqb, le-ltb}
+use Rattle.rules.specs.Bits.{flag}
 use Rattle.sense.specs.Refusal.{refusedSense}
 use Rattle.order.specs.declared.Order.{Order}
 use Rattle.pending.specs.declared.Pending.{Pending}
@@ -15,7 +16,7 @@ use Rattle.pending.specs.declared.Submitted.{Submitted}
 use Rattle.pending.specs.declared.Completed.{Completed}
 use Rattle.command.specs.Command.{Whole, long, protocol, tDir, tLength, byteBlock, count, ckCond, extend}
 use Rattle.command.specs.Length.{lengthOf}
-use Rattle.order.specs.Order.{reset, flag, directionOf, noOrder, orderOf}
+use Rattle.order.specs.Order.{reset, directionOf, noOrder, orderOf}
 use Rattle.order.specs.Check as Check
 use Rattle.pending.specs.Record.{empty, nothingPending}
 use Rattle.pending.specs.Submit as Submit

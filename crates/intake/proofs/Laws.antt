@@ -1,22 +1,31 @@
 -- Laws of sums and of runs.
 use mathlib.Core.Path.{_≡_, refl, sym, ap, _∙_}
-use mathlib.Core.Bool.{false, not}
+use mathlib.Core.Bool.{Bool, true, false, cond, not}
 use mathlib.Core.List.{List, [], _∷_, _++_}
 use Prim.Native.Nat.{ℕ, zero, suc, _+_, _-_, _%_, _≤_, _<_, min}
 use native.Mathlib.Nat.{sub-zero, suc-sub-suc}
 use native.Mathlib.Omega.{arith}
 use lib.Dec.{eqb, ltb}
 use lib.ListN.{length, getD, take, drop, drop-of-length-le}
-use lib.Seq.{drop-cons}
+use lib.Seq.{drop-cons, take-all}
 use borrow.Author.Tests.{eqb-true, ltb-false, not-false}
 use Rattle.rules.proofs.Checks.{neither}
-use Rattle.intake.specs.Intake.{wrongIntake, sumOf}
+use Rattle.intake.specs.Intake.{wrongIntake, sumOf, complete, blockOf, offer, offered}
 
 -- An intake that is not refused has a store of 512 bytes, and claims no more.
 pub right : (have store : ℕ) → wrongIntake have store ≡ false → (store ≡ 512) × (have ≤ 512)
 right have store e =
     let both = neither (not (eqb store 512)) (ltb 512 have) e in
     (eqb-true _ _ (not-false _ (both .0)), ltb-false _ _ (both .1))
+
+-- What is offered as a number is the block: the store's front, of as many bytes.
+pub offered-front : (have : ℕ) (store : List ℕ) → wrongIntake have (length store) ≡ false → take (offered have (length store) .count) store ≡ blockOf have store
+unfolding offered
+offered-front have store e = rw e (by (complete have))
+  where
+    by : (b : Bool) → take (cond b (offer 0 512) (offer 0 0) .count) store ≡ cond b store []
+    by true = take-all 512 store (omega (arith, right have (length store) e .0))
+    by false = refl
 
 pub sum-append : (a b : List ℕ) → sumOf (a ++ b) ≡ sumOf a + sumOf b
 unfolding sumOf

@@ -4,6 +4,7 @@ use mathlib.Core.List.{List, [], _∷_}
 use Prim.Native.Nat.{ℕ, _+_, _-_, _%_}
 use lib.Dec.{eqb, ltb}
 use lib.ListN.{length, take}
+use Rattle.rules.specs.Bits.{flag}
 use Rattle.room.specs.Room.{written}
 use Rattle.intake.specs.declared.Intake.{Intake}
 use Rattle.intake.specs.declared.Offered.{Offered}
@@ -34,9 +35,6 @@ after held bytes = intake (held .have + length bytes) ((held .sum + sumOf bytes)
 -- "reports complete at byte 512"
 abbrev pub complete : ℕ → Bool
 complete have = eqb have 512
-
-abbrev pub flag : Bool → ℕ
-flag set = cond set 1 0
 
 -- Everything that comes back, and every lent byte that can change.
 pub record Outcome : Type 0 where

@@ -3,7 +3,7 @@
 ghost use mathlib.Core.Path.{_≡_};
 ghost use mathlib.Core.List.{List};
 ghost use Prim.Native.Nat.{_+_, _%_};
-ghost use Rattle.intake.specs.Intake.{empty as Intake·empty, wrongIntake, sumOf, flag as Intake·flag, answer, outcome, taken, blockOf, offered as Intake·offered};
+ghost use Rattle.intake.specs.Intake.{empty as Intake·empty, wrongIntake, sumOf, answer, outcome, taken, blockOf, offered as Intake·offered};
 
 // What an intake has: how many bytes, in the front of its store, and their sum modulo 256.
 #[repr(C)]
@@ -56,15 +56,6 @@ fn carried(sum: u16, bytes: &[u8]) -> u16
     (sum % 256 + total(bytes) as u16) % 256
 }
 
-fn flag(set: bool) -> u8
-    ensures { λ r. ⌜ r ≡ Intake·flag set ⌝ }
-{
-    if set {
-        return 1;
-    }
-    0
-}
-
 // Takes a run: as many of its bytes as the intake lacks, behind those that it has.
 pub fn take(intake: Intake, store: &mut [u8], run: &[u8]) -> Took
     ensures { λ r. ⌜ outcome r (now (store .exit)) ≡ taken intake (now (store .entry)) (now (run .entry)) ⌝ }
@@ -88,7 +79,7 @@ pub fn take(intake: Intake, store: &mut [u8], run: &[u8]) -> Took
         next: Intake { have, sum },
         used,
         number: 0,
-        complete: flag(have == 512),
+        complete: rules::flag(have == 512),
     }
 }
 

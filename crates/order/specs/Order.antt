@@ -3,6 +3,7 @@ use mathlib.Core.Bool.{Bool, cond, _||_}
 use mathlib.Core.List.{List}
 use Prim.Native.Nat.{ℕ, _+_, _-_, _^_}
 use lib.Dec.{eqb}
+use Rattle.rules.specs.Bits.{flag}
 use Rattle.order.specs.declared.Order.{Order}
 use Rattle.command.specs.Command.{protocol, multipleCount, offLine, ckCond, extend, tDir, register, device, ataCommand}
 use Rattle.command.specs.Length.{lengthOf}
@@ -23,10 +24,6 @@ withData p = fromDrive p || toDrive p || eqb p 6
 -- "Protocols 0 and 1": resets
 abbrev pub reset : ℕ → Bool
 reset p = eqb p 0 || eqb p 1
-
--- A flag as an order holds it.
-abbrev pub flag : Bool → ℕ
-flag set = cond set 1 0
 
 -- The direction comes from PROTOCOL and T_DIR alone: 0 none, 1 from the drive, 2 to it.
 abbrev pub directionOf : ℕ → Bool → ℕ

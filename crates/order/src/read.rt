@@ -4,7 +4,7 @@ use command::length;
 ghost use mathlib.Core.Path.{_≡_};
 ghost use Prim.Native.Nat.{_<_, _^_};
 ghost use Rattle.command.specs.Command.{Whole};
-ghost use Rattle.order.specs.Order.{withoutData, fromDrive, toDrive, withData, reset as Order·reset, flag as Order·flag, directionOf, quietSeconds, resetOrder, commandOrder, orderOf};
+ghost use Rattle.order.specs.Order.{withoutData, fromDrive, toDrive, withData, reset as Order·reset, directionOf, quietSeconds, resetOrder, commandOrder, orderOf};
 
 // Protocols by number: without data, from the drive, to the drive, and all that have data.
 pub fn without_data(protocol: u8) -> bool
@@ -36,15 +36,6 @@ fn reset(protocol: u8) -> bool
     ensures { λ r. ⌜ r ≡ Order·reset protocol ⌝ }
 {
     (protocol == 0) | (protocol == 1)
-}
-
-fn flag(set: bool) -> u8
-    ensures { λ r. ⌜ r ≡ Order·flag set ⌝ }
-{
-    if set {
-        return 1;
-    }
-    0
 }
 
 // The direction, from PROTOCOL and T_DIR alone.
@@ -118,8 +109,8 @@ fn command_order(command: &[u8], declared: u32) -> Order
         device: command::device(command),
         command: opcode,
         protocol,
-        ck_cond: flag(command::ck_cond(command)),
-        extend: flag(command::extend(command)),
+        ck_cond: rules::flag(command::ck_cond(command)),
+        extend: rules::flag(command::extend(command)),
         direction: direction(protocol, from),
     }
 }

@@ -4,7 +4,7 @@ ghost use mathlib.Core.Path.{_≡_};
 ghost use mathlib.Core.List.{List};
 ghost use Prim.Native.Nat.{_+_, _*_, _-_, _<_, _≤_, min};
 ghost use lib.ListN.{getD, take, drop};
-ghost use Rattle.rules.specs.Bits.{bit as Bits·bit};
+ghost use Rattle.rules.specs.Bits.{bit as Bits·bit, flag as Bits·flag};
 
 // Whether bit k of a byte is one.
 pub fn bit(byte: u8, k: u8) -> bool
@@ -12,6 +12,16 @@ pub fn bit(byte: u8, k: u8) -> bool
     ensures { λ r. ⌜ r ≡ Bits·bit k byte ⌝ }
 {
     (byte >> k) % 2 == 1
+}
+
+// A yes or no as a number.
+pub fn flag(set: bool) -> u8
+    ensures { λ r. ⌜ r ≡ Bits·flag set ⌝ }
+{
+    if set {
+        return 1;
+    }
+    0
 }
 
 // The lesser of two numbers.

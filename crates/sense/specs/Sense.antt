@@ -3,15 +3,12 @@ use mathlib.Core.Bool.{Bool, cond}
 use mathlib.Core.List.{List, [], _∷_}
 use Prim.Native.Nat.{ℕ}
 use lib.ListN.{getD}
+use Rattle.rules.specs.Bits.{flag}
 
 -- What stands beside key, ASC and ASCQ: nothing, or the registers that the drive left, with EXTEND.
 pub data Told : Type 0 where
   nothing : Told
   registers : Bool → List ℕ → Told
-
--- "EXTEND as 00 or 01"
-abbrev pub flag : Bool → ℕ
-flag extend = cond extend 0x01 0x00
 
 -- "With EXTEND zero the four upper bytes are 00."
 abbrev pub upper : Bool → ℕ → ℕ
@@ -30,7 +27,7 @@ shown extend lent =
     ∷ []
 
 -- "exactly 8 sense bytes, `72 key ASC ASCQ 00 00 00 00`"; with registers
--- "22 bytes: `72 key ASC ASCQ 00 00 00 0E`, then `09 0C`, EXTEND .."
+-- "22 bytes: `72 key ASC ASCQ 00 00 00 0E`, then `09 0C`, EXTEND as 00 or 01 .."
 unfoldable pub senseData : ℕ → ℕ → ℕ → Told → List ℕ
 senseData key asc ascq nothing = 0x72 ∷ key ∷ asc ∷ ascq ∷ 0x00 ∷ 0x00 ∷ 0x00 ∷ 0x00 ∷ []
 senseData key asc ascq (registers extend lent) =
