@@ -14,13 +14,13 @@ use borrow.Author.Tests.{eq-eqb, eqb-true}
 use Rattle.identify.specs.Block.{words, serial, model, name}
 use Rattle.identify.specs.Text.{turned, space, spaced}
 use Rattle.identify.specs.Drive.{someBit, carriesName, equal, sameDrive}
-use Rattle.identify.proofs.Block.{length-words}
-use Rattle.identify.proofs.Text.{turned-twice, turned-injective, turned-map, length-turned, length-text}
+use Rattle.identify.proofs.Block.{length-name}
+use Rattle.identify.proofs.Text.{turned-twice, turned-injective, turned-map, length-turned}
 use Rattle.identify.proofs.Drive.{equal-same, OneName, OneText, same-drive-means, same-drive-when}
 use Rattle.page83.specs.declared.Name.{Name}
 use Rattle.page83.specs.Page83.{page83, namePage, textPage, Outcome, write}
 use Rattle.page83.specs.Reader.{noZero, namesDrive, tellsTexts, inSixty, read}
-use Rattle.page83.proofs.Laws.{named-page, unnamed-page}
+use Rattle.page83.proofs.Laws.{named-page, unnamed-page, length-model-text, length-serial-text}
 
 -- Turning makes no bit and loses none.
 or-swap : (p q r : Bool) → (p || (q || r)) ≡ (q || (p || r))
@@ -63,18 +63,12 @@ passed n k head page asked h =
     (eqb-true (length page) n (v .0), rw (← equal-same (take k page) head (v .1)) (take-append-drop k page), w .1)
 
 module _ (block : List ℕ) (l : length block ≡ 512) where
-  forty : length (spaced (turned (model block))) ≡ 40
-  forty = length-text space (model block) ∙ length-words 27 46 block (omega arith)
-
-  twenty : length (spaced (turned (serial block))) ≡ 20
-  twenty = length-text space (serial block) ∙ length-words 10 19 block (omega arith)
-
   -- Demand 2, the reader "gives back the name that went in": of a drive that carries a name.
   pub reads-back-name : carriesName block ≡ true → read (page83 block) ≡ record { number = 0; form = 1; name = inSixty (turned (name block)) }
   unfolding carriesName
   reads-back-name h =
       rw (named-page block h)
-      (read-name (turned (name block)) (length-turned (name block) ∙ length-words 108 111 block (omega arith)) (some-bit-turned (name block) ∙ h))
+      (read-name (turned (name block)) (length-turned (name block) ∙ length-name block l) (some-bit-turned (name block) ∙ h))
 
   -- And of a drive that carries none: model and serial number, "a text's zero bytes as spaces".
   pub reads-back-texts : carriesName block ≡ false → read (page83 block) ≡ record { number = 0; form = 2; name = inSixty (spaced (turned (model block)) ++ spaced (turned (serial block))) }
@@ -82,7 +76,7 @@ module _ (block : List ℕ) (l : length block ≡ 512) where
       let m = turned (model block) in
       let s = turned (serial block) in
       rw (unnamed-page block h)
-      (read-texts (spaced m ++ spaced s) (length-append (spaced m) (spaced s) ∙ omega (arith, forty, twenty))
+      (read-texts (spaced m ++ spaced s) (length-append (spaced m) (spaced s) ∙ omega (arith, length-model-text block l, length-serial-text block l))
       (ap noZero (sym (map-append space m s)) ∙ no-zero-spaced (m ++ s)))
 
   -- So the reader accepts every page that the writer can make.
@@ -270,7 +264,7 @@ module _ (a b : List ℕ) where
       by false true h k = absurd (omega (arith, ap (λ (l : List ℕ). getD l 3 0) (sym (unnamed-page a h) ∙ e ∙ named-page b k)))
       by false false h k =
           let texts = ap (drop 16) (sym (unnamed-page a h) ∙ e ∙ unnamed-page b k) in
-          let w = apart 40 (spaced (turned (model a))) _ (spaced (turned (model b))) _ (forty a la) (forty b lb) texts in
+          let w = apart 40 (spaced (turned (model a))) _ (spaced (turned (model b))) _ (length-model-text a la) (length-model-text b lb) texts in
           inr (h, k, one-text (model a) (model b) .0 (w .0), one-text (serial a) (serial b) .0 (w .1))
 
 -- What the reader gives and what the writer leaves depend on nothing but what they were given.

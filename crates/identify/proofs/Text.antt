@@ -6,7 +6,8 @@ use Prim.Native.Nat.{ℕ, zero, suc, _+_, _-_, _*_, _%_, _<_, _≤_}
 use native.Mathlib.Nat.{le-of-suc-le-suc, not-suc-le-zero}
 use native.Mathlib.Omega.{arith}
 use lib.Dec.{eqb·suc-zero}
-use lib.ListN.{length, getD, take, length-map}
+use lib.ListN.{length, getD, take, drop, length-map}
+use Rattle.room.proofs.Laws.{four}
 use Rattle.identify.specs.Text.{turned, space, spaced, shown}
 
 -- Turned twice is as it was.
@@ -99,6 +100,9 @@ module _ (f : ℕ → ℕ) (s : List ℕ) (i : ℕ) (h : i < length s) where
   pub turned-last : length s ≤ partner i → getD (map f (turned s)) i 0 ≡ f (getD s i 0)
   turned-last k = getD-map f (turned s) i (omega (arith, length-turned s)) ∙ ap f (getD-last s i h k)
 
+pub length-text : (f : ℕ → ℕ) (s : List ℕ) → length (map f (turned s)) ≡ length s
+length-text f s = length-map (turned s) f ∙ length-turned s
+
 -- The two bytes of a word of a turned text, the word starting at an even place.
 module _ (f : ℕ → ℕ) (s : List ℕ) (i : ℕ) (even : i % 2 ≡ 0) (h : i + 1 < length s) where
   pub word-first : getD (map f (turned s)) i 0 ≡ f (getD s (i + 1) 0)
@@ -111,5 +115,18 @@ module _ (f : ℕ → ℕ) (s : List ℕ) (i : ℕ) (even : i % 2 ≡ 0) (h : i 
       let p : partner (i + 1) ≡ i = omega arith in
       rw p at (turned-pair f s (i + 1) h (omega arith))
 
-pub length-text : (f : ℕ → ℕ) (s : List ℕ) → length (map f (turned s)) ≡ length s
-length-text f s = length-map (turned s) f ∙ length-turned s
+-- Two words of a turned text at once, and what follows them; then four.
+module _ (f : ℕ → ℕ) (s : List ℕ) (i : ℕ) (even : i % 2 ≡ 0) (h : i + 4 ≤ length s) where
+  pub two-words : drop i (map f (turned s)) ≡ f (getD s (i + 1) 0) ∷ f (getD s i 0) ∷ f (getD s (i + 3) 0) ∷ f (getD s (i + 2) 0) ∷ drop (i + 4) (map f (turned s))
+  two-words =
+      let third : i + 2 + 1 ≡ i + 3 = omega arith in
+      rw (word-first f s i even (omega arith), word-second f s i even (omega arith), rw third at (word-first f s (i + 2) (omega arith) (omega arith)), rw third at (word-second f s (i + 2) (omega arith) (omega arith))) at (four (map f (turned s)) i (omega (arith, length-text f s)))
+
+pub four-words : (s : List ℕ) (i : ℕ) → i % 2 ≡ 0 → i + 8 ≤ length s → drop i (turned s) ≡ getD s (i + 1) 0 ∷ getD s i 0 ∷ getD s (i + 3) 0 ∷ getD s (i + 2) 0 ∷ getD s (i + 5) 0 ∷ getD s (i + 4) 0 ∷ getD s (i + 7) 0 ∷ getD s (i + 6) 0 ∷ drop (i + 8) (turned s)
+four-words s i even h =
+    let five : i + 4 + 1 ≡ i + 5 = omega arith in
+    let six : i + 4 + 2 ≡ i + 6 = omega arith in
+    let seven : i + 4 + 3 ≡ i + 7 = omega arith in
+    let eight : i + 4 + 4 ≡ i + 8 = omega arith in
+    rw shown-as-it-is at (two-words (shown false) s i even (omega arith))
+    ∙ ap (λ (t : List ℕ). getD s (i + 1) 0 ∷ getD s i 0 ∷ getD s (i + 3) 0 ∷ getD s (i + 2) 0 ∷ t) (rw (shown-as-it-is, five, six, seven, eight) at (two-words (shown false) s (i + 4) (omega arith) (omega arith)))

@@ -3,9 +3,9 @@
 ghost use mathlib.Core.Path.{_≡_};
 ghost use mathlib.Core.Bool.{_&&_};
 ghost use mathlib.Core.List.{List, map};
-ghost use Prim.Native.Nat.{_<_};
-ghost use lib.ListN.{length, getD};
-ghost use Rattle.room.specs.Room.{Wrote, fitting};
+ghost use Prim.Native.Nat.{_+_, _%_, _<_, _≤_};
+ghost use lib.ListN.{length, getD, take, drop};
+ghost use Rattle.room.specs.Room.{Wrote};
 ghost use Rattle.identify.specs.Block.{word as Block·word, serial as Block·serial, model as Block·model, name as Block·name};
 ghost use Rattle.identify.specs.Text.{turned, spaced, shown as Text·shown};
 ghost use Rattle.identify.specs.Drive.{someBit, carriesName, equal, sameDrive};
@@ -72,46 +72,80 @@ fn turned_at(text: &[u8], i: usize, spaced: bool) -> u8
     shown(spaced, text[i])
 }
 
-// Writes the first n bytes of a turned text, word by word, where n of them fit; the last byte that fits alone stands for itself.
-fn put_words(room: &mut [u8], at: usize, text: &[u8], spaced: bool, n: usize)
-    requires { ⌜ n ≡ fitting (length (now room)) at (length (now text)) ⌝ }
+// Writes a text turned, byte by byte, each where there is room for it.
+fn put_each(room: &mut [u8], at: usize, text: &[u8], spaced: bool)
     ensures { λ _. ⌜ Wrote (now (room .entry)) at (map (Text·shown spaced) (turned (now (text .entry)))) (now (room .exit)) ⌝ }
 {
     let mut i = 0;
-    while i + 1 < n {
-        room[at + i] = shown(spaced, text[i + 1]);
-        room[at + i + 1] = shown(spaced, text[i]);
-        i += 2;
-    }
-    if i < n {
-        room[at + i] = turned_at(text, i, spaced);
+    while i < text.len() {
+        room::put_byte(room, at, i, turned_at(text, i, spaced));
+        i += 1;
     }
 }
 
-// Writes a text turned. As in `room::put`, a text that fits whole goes by its own length.
-fn put_text(room: &mut [u8], at: usize, text: &[u8], spaced: bool)
-    ensures { λ _. ⌜ Wrote (now (room .entry)) at (map (Text·shown spaced) (turned (now (text .entry)))) (now (room .exit)) ⌝ }
+// Writes four words that fit, each turned. As in `room::store_four`, all are read before the first is written.
+fn store_words(room: &mut [u8], at: usize, text: &[u8], i: usize)
+    requires { ⌜ (at + 8 ≤ length (now room)) × ((i + 8 ≤ length (now text)) × (i % 2 ≡ 0)) ⌝ }
+    ensures { λ _. ⌜ Wrote (now (room .entry)) at (take 8 (drop i (turned (now (text .entry))))) (now (room .exit)) ⌝ }
 {
-    let n = room::fit(room.len(), at, text.len());
-    if n == text.len() {
-        put_words(room, at, text, spaced, text.len());
-        return;
+    let e = text[i + 5];
+    let f = text[i + 4];
+    let g = text[i + 7];
+    let h = text[i + 6];
+    room::store_four(room, at, text[i + 1], text[i], text[i + 3], text[i + 2]);
+    room::store_four(room, at + 4, e, f, g, h);
+}
+
+// Writes a text that fits turned, its zero bytes kept.
+pub fn store_turned(room: &mut [u8], at: usize, text: &[u8])
+    requires { ⌜ (at + length (now text) ≤ length (now room)) × (length (now text) % 8 ≡ 0) ⌝ }
+    ensures { λ _. ⌜ Wrote (now (room .entry)) at (turned (now (text .entry))) (now (room .exit)) ⌝ }
+{
+    let mut i = 0;
+    while i < text.len() {
+        store_words(room, at + i, text, i);
+        i += 8;
     }
-    put_words(room, at, text, spaced, n);
+}
+
+// Writes a text that fits turned, its zero bytes as spaces.
+pub fn store_spaced(room: &mut [u8], at: usize, text: &[u8])
+    requires { ⌜ (at + length (now text) ≤ length (now room)) × (length (now text) % 4 ≡ 0) ⌝ }
+    ensures { λ _. ⌜ Wrote (now (room .entry)) at (spaced (turned (now (text .entry)))) (now (room .exit)) ⌝ }
+{
+    let mut i = 0;
+    while i < text.len() {
+        let a = shown(true, text[i + 1]);
+        let b = shown(true, text[i]);
+        let c = shown(true, text[i + 3]);
+        let d = shown(true, text[i + 2]);
+        room::store_four(room, at + i, a, b, c, d);
+        i += 4;
+    }
 }
 
 // Writes a text turned, its zero bytes kept. The name's words so go high byte first.
 pub fn put_turned(room: &mut [u8], at: usize, text: &[u8])
+    requires { ⌜ length (now text) % 8 ≡ 0 ⌝ }
     ensures { λ _. ⌜ Wrote (now (room .entry)) at (turned (now (text .entry))) (now (room .exit)) ⌝ }
 {
-    put_text(room, at, text, false);
+    if room::fits(room.len(), at, text.len()) {
+        store_turned(room, at, text);
+        return;
+    }
+    put_each(room, at, text, false);
 }
 
 // Writes a text turned, its zero bytes as spaces.
 pub fn put_spaced(room: &mut [u8], at: usize, text: &[u8])
+    requires { ⌜ length (now text) % 4 ≡ 0 ⌝ }
     ensures { λ _. ⌜ Wrote (now (room .entry)) at (spaced (turned (now (text .entry)))) (now (room .exit)) ⌝ }
 {
-    put_text(room, at, text, true);
+    if room::fits(room.len(), at, text.len()) {
+        store_spaced(room, at, text);
+        return;
+    }
+    put_each(room, at, text, true);
 }
 
 // Whether some bit of some byte is one.

@@ -3,6 +3,7 @@
 use libc::STDERR_FILENO;
 use libc::STDOUT_FILENO;
 ghost use mathlib.Core.Path.{_≡_};
+ghost use Prim.Native.Nat.{_%_, _≤_};
 ghost use lib.ListN.{length};
 
 // Writes to standard output; false where that fails, here and below.
@@ -10,22 +11,20 @@ fn say(text: &[u8]) -> bool {
     io::write_all(STDOUT_FILENO, text)
 }
 
-// The model, turned and spaced, in brackets.
-fn say_model(block: &[u8]) -> bool
-    requires { ⌜ length (now block) ≡ 512 ⌝ }
+// A text, turned and spaced, in brackets.
+fn say_text(text: &[u8]) -> bool
+    requires { ⌜ (length (now text) ≤ 40) × (length (now text) % 4 ≡ 0) ⌝ }
 {
     let mut shown = [0u8; 40];
-    identify::put_spaced(&mut shown, 0, identify::model(block));
-    say(b" [") && say(&shown) && say(b"]")
+    identify::put_spaced(&mut shown, 0, text);
+    say(b" [") && say(&shown[..text.len()]) && say(b"]")
 }
 
-// The serial number, turned and spaced, in brackets.
-fn say_serial(block: &[u8]) -> bool
+// The model and the serial number.
+fn say_texts(block: &[u8]) -> bool
     requires { ⌜ length (now block) ≡ 512 ⌝ }
 {
-    let mut shown = [0u8; 20];
-    identify::put_spaced(&mut shown, 0, identify::serial(block));
-    say(b" [") && say(&shown) && say(b"]")
+    say_text(identify::model(block)) && say_text(identify::serial(block))
 }
 
 // Word w, high byte first, in hexadecimal digits.
@@ -55,8 +54,7 @@ fn label(i: usize, block: &[u8], first: usize) -> bool
     requires { ⌜ length (now block) ≡ 512 ⌝ }
 {
     say_place(i)
-        && say_model(block)
-        && say_serial(block)
+        && say_texts(block)
         && say_name(block)
         && say(b" drive ")
         && say_place(first)

@@ -109,8 +109,7 @@ fn put_codes(room: &mut [u8], codes: &[u8])
     let at = place(codes);
     let rest = behind(codes);
     room::put(room, 4, &codes[..at]);
-    let code = [0x89u8];
-    room::put(room, 4 + at, &code);
+    room::put_byte(room, 4, at, 0x89);
     room::put(room, 5 + at, &codes[rest..]);
 }
 
@@ -127,6 +126,6 @@ pub fn put(room: &mut [u8], reply: &[u8])
         rules::byte(reply, 2),
         n as u8,
     ];
-    room::put(room, 0, &head);
+    room::put_short(room, 0, &head);
     put_codes(room, codes);
 }

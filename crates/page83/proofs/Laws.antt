@@ -10,7 +10,7 @@ use Rattle.room.specs.Room.{written}
 use Rattle.identify.specs.Block.{serial, model, name}
 use Rattle.identify.specs.Text.{turned, spaced}
 use Rattle.identify.specs.Drive.{carriesName}
-use Rattle.identify.proofs.Block.{length-words}
+use Rattle.identify.proofs.Block.{length-serial, length-model, length-name}
 use Rattle.identify.proofs.Text.{length-turned, length-spaced}
 use Rattle.page83.specs.Page83.{page83, namePage, textPage, ata, refusalOf, outcome, write}
 
@@ -25,20 +25,20 @@ module _ (block : List ℕ) where
 
 -- The page's size: 16 or 76 bytes.
 module _ (block : List ℕ) (h : length block ≡ 512) where
-  pub length-model : length (spaced (turned (model block))) ≡ 40
-  length-model = length-spaced (turned (model block)) ∙ length-turned (model block) ∙ length-words 27 46 block (omega arith)
+  pub length-model-text : length (spaced (turned (model block))) ≡ 40
+  length-model-text = length-spaced (turned (model block)) ∙ length-turned (model block) ∙ length-model block h
 
-  pub length-serial : length (spaced (turned (serial block))) ≡ 20
-  length-serial = length-spaced (turned (serial block)) ∙ length-turned (serial block) ∙ length-words 10 19 block (omega arith)
+  pub length-serial-text : length (spaced (turned (serial block))) ≡ 20
+  length-serial-text = length-spaced (turned (serial block)) ∙ length-turned (serial block) ∙ length-serial block h
 
   pub length-named : carriesName block ≡ true → length (page83 block) ≡ 16
-  length-named e = rw (named-page block e) (omega (arith, length-turned (name block), length-words 108 111 block (omega arith)))
+  length-named e = rw (named-page block e) (omega (arith, length-turned (name block), length-name block h))
 
   pub length-unnamed : carriesName block ≡ false → length (page83 block) ≡ 76
   length-unnamed e =
       let m = spaced (turned (model block)) in
       let s = spaced (turned (serial block)) in
-      rw (unnamed-page block e) (omega (arith, length-append (ata ++ m) s, length-append ata m, length-model, length-serial))
+      rw (unnamed-page block e) (omega (arith, length-append (ata ++ m) s, length-append ata m, length-model-text, length-serial-text))
 
 pub page-sizes : (block : List ℕ) → length block ≡ 512 → length (page83 block) ≡ cond (carriesName block) 16 76
 page-sizes block h = by (carriesName block) refl

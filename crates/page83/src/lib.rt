@@ -51,21 +51,48 @@ pub struct Name {
     pub name: [u8; 60],
 }
 
-// The page of a drive that carries a name.
+// The page of a drive that carries a name, in room that holds it.
+fn store_name(room: &mut [u8], block: &[u8])
+    requires { ⌜ (length (now block) ≡ 512) × (16 ≤ length (now room)) ⌝ }
+    ensures { λ _. ⌜ Wrote (now (room .entry)) 0 (namePage (turned (name (now (block .entry))))) (now (room .exit)) ⌝ }
+{
+    room::store(room, 0, &NAME_HEAD);
+    identify::store_turned(room, 8, identify::name(block));
+}
+
+// As much of it as fits.
 fn put_name(room: &mut [u8], block: &[u8])
     requires { ⌜ length (now block) ≡ 512 ⌝ }
     ensures { λ _. ⌜ Wrote (now (room .entry)) 0 (namePage (turned (name (now (block .entry))))) (now (room .exit)) ⌝ }
 {
-    room::put(room, 0, &NAME_HEAD);
+    if 16 <= room.len() {
+        store_name(room, block);
+        return;
+    }
+    room::put_short(room, 0, &NAME_HEAD);
     identify::put_turned(room, 8, identify::name(block));
 }
 
-// The page of a drive that carries none.
+// The page of a drive that carries none, in room that holds it.
+fn store_texts(room: &mut [u8], block: &[u8])
+    requires { ⌜ (length (now block) ≡ 512) × (76 ≤ length (now room)) ⌝ }
+    ensures { λ _. ⌜ Wrote (now (room .entry)) 0 (textPage (spaced (turned (model (now (block .entry))))) (spaced (turned (serial (now (block .entry)))))) (now (room .exit)) ⌝ }
+{
+    room::store(room, 0, &TEXT_HEAD);
+    identify::store_spaced(room, 16, identify::model(block));
+    identify::store_spaced(room, 56, identify::serial(block));
+}
+
+// As much of it as fits.
 fn put_texts(room: &mut [u8], block: &[u8])
     requires { ⌜ length (now block) ≡ 512 ⌝ }
     ensures { λ _. ⌜ Wrote (now (room .entry)) 0 (textPage (spaced (turned (model (now (block .entry))))) (spaced (turned (serial (now (block .entry)))))) (now (room .exit)) ⌝ }
 {
-    room::put(room, 0, &TEXT_HEAD);
+    if 76 <= room.len() {
+        store_texts(room, block);
+        return;
+    }
+    room::put_short(room, 0, &TEXT_HEAD);
     identify::put_spaced(room, 16, identify::model(block));
     identify::put_spaced(room, 56, identify::serial(block));
 }
@@ -111,12 +138,12 @@ pub fn write(block: &[u8], room: &mut [u8]) -> Written
         if room.len() < 16 {
             return wrote(8, 0);
         }
-        put_name(room, block);
+        store_name(room, block);
         return wrote(0, 16);
     }
     if room.len() < 76 {
         return wrote(8, 0);
     }
-    put_texts(room, block);
+    store_texts(room, block);
     wrote(0, 76)
 }

@@ -7,7 +7,7 @@ use native.Mathlib.Omega.{arith}
 use lib.ListN.{length, take, length-append, length-take}
 use Rattle.identify.specs.Block.{serial, model}
 use Rattle.identify.specs.Text.{turned, spaced}
-use Rattle.identify.proofs.Block.{length-words}
+use Rattle.identify.proofs.Block.{length-serial, length-model}
 use Rattle.identify.proofs.Text.{length-turned, length-spaced}
 use Rattle.page83.specs.Page83.{ata}
 use Rattle.pages.specs.Page.{standard, page00, page80, page89, typeByte, commandCode, blockOrZeros, revision}
@@ -15,7 +15,7 @@ use Rattle.pages.specs.Page.{standard, page00, page80, page89, typeByte,
 -- Of a whole block.
 module _ (block : List ℕ) (h : length block ≡ 512) where
   pub length-product : length (take 16 (turned (model block))) ≡ 16
-  length-product = rw (length-take, length-turned, length-words 27 46 block (omega arith))
+  length-product = rw (length-take, length-turned, length-model block h)
 
   pub length-standard : length (standard block) ≡ 36
   unfolding standard
@@ -25,7 +25,7 @@ module _ (block : List ℕ) (h : length block ≡ 512) where
 
   pub length-page80 : length (page80 block) ≡ 24
   unfolding page80
-  length-page80 = omega (arith, length-spaced (turned (serial block)), length-turned (serial block), length-words 10 19 block (omega arith))
+  length-page80 = omega (arith, length-spaced (turned (serial block)), length-turned (serial block), length-serial block h)
 
 pub length-page89 : (packet : Bool) (texts signature block : List ℕ) → length texts ≡ 28 → length signature ≡ 20 → length (page89 packet texts signature block) ≡ 60 + length (blockOrZeros block)
 unfolding page89

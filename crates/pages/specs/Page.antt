@@ -1,4 +1,5 @@
 -- The pages, each whole: a cut is the entry's, and no page knows of it.
+use mathlib.Core.Path.{_≡_}
 use mathlib.Core.Bool.{Bool, cond, _&&_, not}
 use mathlib.Core.List.{List, [], _∷_, _++_}
 use Prim.Native.Nat.{ℕ}
@@ -40,6 +41,10 @@ commandCode packet = cond packet 0xA1 0xEC
 -- "With no block, 512 bytes of zero stand in for it."
 abbrev pub blockOrZeros : List ℕ → List ℕ
 blockOrZeros block = cond (eqb (length block) 0) (replicate 512 0x00) block
+
+-- "an IDENTIFY block of 512 bytes, or of 0 bytes if the drive gave none". For private functions; no rule names it.
+abbrev pub WholeOrNone : List ℕ → Type 0
+WholeOrNone block = (length block ≡ 0 → ⊥) → length block ≡ 512
 
 -- "**89h, 572 bytes**: type byte, `89 02 38`, four zero bytes, translator texts (8-35), signature (36-55), command code (56),
 -- three zero bytes, IDENTIFY block unturned (60-571)."

@@ -8,7 +8,7 @@ ghost use lib.ListN.{length, take, replicate};
 ghost use Rattle.room.specs.Room.{Wrote};
 ghost use Rattle.rules.specs.Bits.{bit};
 ghost use Rattle.identify.specs.Block.{word, model};
-ghost use Rattle.pages.specs.Page.{standard, page00, page80, page89, typeByte, commandCode, blockOrZeros};
+ghost use Rattle.pages.specs.Page.{standard, page00, page80, page89, typeByte, commandCode, blockOrZeros, WholeOrNone};
 
 // RMB, the removable medium bit of standard data.
 fn removable(block: &[u8]) -> u8
@@ -52,12 +52,12 @@ pub fn put_standard(room: &mut [u8], block: &[u8])
         b' ',
         b' ',
     ];
-    room::put(room, 0, &head);
+    room::put_short(room, 0, &head);
     // PRODUCT IDENTIFICATION
     identify::put_turned(room, 16, product(block));
     // PRODUCT REVISION LEVEL
     let revision = [b' ', b' ', b' ', b' '];
-    room::put(room, 32, &revision);
+    room::put_short(room, 32, &revision);
 }
 
 pub const STANDARD_SIZE: usize = 36;
@@ -76,7 +76,7 @@ pub fn put_supported(room: &mut [u8])
         0x83u8,
         0x89u8,
     ];
-    room::put(room, 0, &bytes);
+    room::put_short(room, 0, &bytes);
 }
 
 // Page 80h, the serial number.
@@ -85,7 +85,7 @@ pub fn put_serial(room: &mut [u8], block: &[u8])
     ensures { λ _. ⌜ Wrote (now (room .entry)) 0 (page80 (now (block .entry))) (now (room .exit)) ⌝ }
 {
     let head = [0x00u8, 0x80u8, 0x00u8, 0x14u8];
-    room::put(room, 0, &head);
+    room::put_short(room, 0, &head);
     identify::put_spaced(room, 4, identify::serial(block));
 }
 
@@ -122,18 +122,19 @@ fn put_zeros(room: &mut [u8], at: usize)
 }
 
 fn put_block(room: &mut [u8], at: usize, block: &[u8])
+    requires { ⌜ WholeOrNone (now block) ⌝ }
     ensures { λ _. ⌜ Wrote (now (room .entry)) at (blockOrZeros (now (block .entry))) (now (room .exit)) ⌝ }
 {
     if block.len() == 0 {
         put_zeros(room, at);
         return;
     }
-    room::put(room, at, block);
+    room::put(room, at, &block[..512]);
 }
 
 // Page 89h, ATA information.
 pub fn put_information(room: &mut [u8], packet: bool, texts: &[u8], signature: &[u8], block: &[u8])
-    requires { ⌜ (length (now texts) ≡ 28) × (length (now signature) ≡ 20) ⌝ }
+    requires { ⌜ (length (now texts) ≡ 28) × ((length (now signature) ≡ 20) × WholeOrNone (now block)) ⌝ }
     ensures { λ _. ⌜ Wrote (now (room .entry)) 0 (page89 packet (now (texts .entry)) (now (signature .entry)) (now (block .entry))) (now (room .exit)) ⌝ }
 {
     let head = [
@@ -146,14 +147,14 @@ pub fn put_information(room: &mut [u8], packet: bool, texts: &[u8], signature: &
         0x00u8,
         0x00u8,
     ];
-    room::put(room, 0, &head);
+    room::put_short(room, 0, &head);
     // SAT VENDOR IDENTIFICATION, SAT PRODUCT IDENTIFICATION, SAT PRODUCT REVISION LEVEL
-    room::put(room, 8, texts);
+    room::put_short(room, 8, texts);
     // ATA DEVICE SIGNATURE
-    room::put(room, 36, signature);
+    room::put_short(room, 36, signature);
     // COMMAND CODE
     let code = [command_code(packet), 0x00u8, 0x00u8, 0x00u8];
-    room::put(room, 56, &code);
+    room::put_short(room, 56, &code);
     // ATA IDENTIFY DEVICE DATA
     put_block(room, 60, block);
 }

@@ -101,6 +101,7 @@ granted q sense e =
             command = ltb-false _ _ (short .0);
             texts = s .twenty-eight;
             signature = s .twenty;
+            whole-or-none = λ some. eqb-true _ _ (one-of (eqb (length (q .block)) 512) _ true (rw (ne-eqb _ _ some)) refl (s .whole-or-none));
             block = whole-block (isPacket q) (evpd (q .command)) (cmddt (q .command)) (pageCode (q .command)) (length (q .block)) (list .0) (s .whole-or-none) h;
             reply = listed (isPacket q) (eqb (pageCode (q .command)) 0x00) (unusable (q .reply)) _ h (list .1 .0);
           };

@@ -7,7 +7,7 @@ use lib.Dec.{eqb, ltb}
 use lib.ListN.{length, getD, take, drop}
 use Rattle.rules.specs.Checks.{Check, _⇒_, first}
 use Rattle.page83.specs.Page83.{page83}
-use Rattle.pages.specs.Page.{standard, page00, page80, page89, blockOrZeros}
+use Rattle.pages.specs.Page.{standard, page00, page80, page89, blockOrZeros, WholeOrNone}
 use Rattle.packet.specs.Packet.{packetDrive, unusable, page00 as packetPage00}
 use Rattle.request.specs.Command.{evpd, cmddt, pageCode, allocation, naca}
 
@@ -118,3 +118,4 @@ pub record Servable (q : Request) : Type 0 where
   pub signature : length (q .signature) ≡ 20
   pub reply : (eqb (pageCode (q .command)) 0x00 && isPacket q && unusable (q .reply)) ≡ false
   pub block : fromBlock (isPacket q) (q .command) ≡ true → length (q .block) ≡ 512
+  pub whole-or-none : WholeOrNone (q .block)

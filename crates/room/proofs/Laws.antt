@@ -6,7 +6,7 @@ use Prim.Native.Nat.{ℕ, zero, suc, _+_, _-_, _≤_, _<_}
 use native.Mathlib.Nat.{eq-zero-or-pos, sub-zero, zero-add, zero-sub, suc-sub-suc, suc-add}
 use native.Mathlib.Numerals.{add-one}
 use native.Mathlib.Omega.{arith}
-use lib.ListN.{length, getD, set, take, drop, length-set, drop-of-length-le}
+use lib.ListN.{length, getD, set, take, drop, drop-of-length-le}
 use lib.Seq.{set-out, drop-cons, drop-nil, length-sets, length-take-le}
 use Rattle.room.specs.Room.{written, Wrote, fitting}
 
@@ -18,6 +18,9 @@ length-written r at s = length-sets r at s
 pub written-out : (r : List ℕ) (at : ℕ) (s : List ℕ) → length r ≤ at → written r at s ≡ r
 written-out r at [] h = refl
 written-out r at (b ∷ s) h = rw (set-out r at b) (written-out r (suc at) s (omega arith))
+
+pub nothing : (r : List ℕ) (at : ℕ) (s : List ℕ) → length r ≤ at → Wrote r at s r
+nothing r at s h = record { leaves = sym (written-out r at s h) }
 
 -- Two writes side by side are one.
 pub written-append : (r : List ℕ) (at : ℕ) (s t : List ℕ) → written (written r at s) (at + length s) t ≡ written r at (s ++ t)
@@ -58,44 +61,41 @@ cut n page r w hp hr =
     let l : length (take n r) ≡ n = length-take-le n r hr in
     rw (w .leaves, written-front (take n r) page, l, drop-of-length-le (take n r) {i = length page} (omega arith), append-nil)
 
--- A loop that writes s, of which n bytes fit, before its turn i: what is left to write takes the room to where it is to be.
-pub record Writing (r : List ℕ) (at : ℕ) (s : List ℕ) (n : ℕ) (o : List ℕ) (i : ℕ) : Type 0 where
-  pub fits : n ≡ fitting (length r) at (length s)
-  pub upto : i ≤ n
+-- A loop that writes s, before its turn at byte i: what is left to write takes the room to where it is to be.
+pub record Writing (r : List ℕ) (at : ℕ) (s : List ℕ) (o : List ℕ) (i : ℕ) : Type 0 where
   pub same : length o ≡ length r
   pub left : written o (at + i) (drop i s) ≡ written r at s
 
-pub begin : (r : List ℕ) (at : ℕ) (s : List ℕ) {n k : ℕ} → length s ≡ k → n ≡ fitting (length r) at k → Writing r at s n r 0
-begin r at s l e =
+pub begin : (r : List ℕ) (at : ℕ) (s : List ℕ) → Writing r at s r 0
+begin r at s = record { same = refl; left = ap (λ (k : ℕ). written r k s) (omega arith) }
+
+-- A turn that writes a piece of s, from its byte i up to its byte k.
+pub turn : {r s o p piece : List ℕ} {at i k : ℕ} → Writing r at s o i → Wrote o (at + i) piece p → drop i s ≡ piece ++ drop k s → k ≡ i + length piece → Writing r at s p k
+turn {r} {s} {o} {p} {piece} {at} {i} {k} w x e l =
+    let m : at + k ≡ at + i + length piece = omega arith in
     record {
-      fits = omega arith;
-      upto = omega arith;
-      same = refl;
-      left = ap (λ (k : ℕ). written r k s) (omega arith);
+      same = ap length (x .leaves) ∙ length-written o (at + i) piece ∙ w .same;
+      left = rw (m, x .leaves) (written-append o (at + i) piece (drop k s) ∙ ap (λ (t : List ℕ). written o (at + i) t) (sym e) ∙ w .left);
     }
 
-pub turn : {r s o : List ℕ} {at n i : ℕ} (v : ℕ) → Writing r at s n o i → i < n → v ≡ getD s i 0 → Writing r at s n (set o (at + i) v) (i + 1)
-turn {r} {s} {o} {at} {n} {i} v w h e =
-    let k : at + (i + 1) ≡ suc (at + i) = omega arith in
-    let l : i < length s = omega (arith, w .fits) in
-    record {
-      fits = w .fits;
-      upto = omega arith;
-      same = length-set o (at + i) v ∙ w .same;
-      left = rw (e, k, add-one) (rw (drop-cons s i 0 l) at (w .left));
-    }
-
--- Two turns at once, for a loop that goes by words.
-pub pair-turn : {r s o : List ℕ} {at n i : ℕ} (v w : ℕ) → Writing r at s n o i → i + 1 < n → v ≡ getD s i 0 → w ≡ getD s (i + 1) 0 → Writing r at s n (set (set o (at + i) v) (at + i + 1) w) (i + 2)
-pair-turn {r} {s} {o} {at} {n} {i} v w x h e f =
-    let p : at + i + 1 ≡ at + (i + 1) = omega arith in
-    let q : i + 2 ≡ i + 1 + 1 = omega arith in
-    rw (p, q) (turn w (turn v x (omega arith) e) h f)
-
-pub done : {r s o : List ℕ} {at n i : ℕ} → Writing r at s n o i → n ≤ i → Wrote r at s o
-done {r} {s} {o} {at} {n} {i} w h =
+pub done : {r s o : List ℕ} {at i : ℕ} → Writing r at s o i → fitting (length r) at (length s) ≤ i → Wrote r at s o
+done {r} {s} {o} {at} {i} w h =
     record {
       leaves =
-          ⊎-elim (λ z. rw (drop-of-length-le s {i = i} (omega (arith, w .fits))) at (w .left))
-          (λ z. sym (written-out o (at + i) (drop i s) (omega (arith, w .fits))) ∙ w .left) (eq-zero-or-pos (length s - i));
+          ⊎-elim (λ z. rw (drop-of-length-le s {i = i} (omega arith)) at (w .left))
+          (λ z. sym (written-out o (at + i) (drop i s) (omega (arith, w .same))) ∙ w .left) (eq-zero-or-pos (length s - i));
     }
+
+-- The pieces of such loops: one byte, and four.
+pub next : (s : List ℕ) (i : ℕ) → i < length s → drop i s ≡ getD s i 0 ∷ drop (i + 1) s
+next s i h = rw add-one (drop-cons s i 0 h)
+
+pub four : (s : List ℕ) (i : ℕ) → i + 4 ≤ length s → drop i s ≡ getD s i 0 ∷ getD s (i + 1) 0 ∷ getD s (i + 2) 0 ∷ getD s (i + 3) 0 ∷ drop (i + 4) s
+four s i h =
+    let two : i + 1 + 1 ≡ i + 2 = omega arith in
+    let three : i + 2 + 1 ≡ i + 3 = omega arith in
+    let last : i + 3 + 1 ≡ i + 4 = omega arith in
+    next s i (omega arith)
+    ∙ ap (λ (t : List ℕ). getD s i 0 ∷ t) (rw two at (next s (i + 1) (omega arith)))
+    ∙ ap (λ (t : List ℕ). getD s i 0 ∷ getD s (i + 1) 0 ∷ t) (rw three at (next s (i + 2) (omega arith)))
+    ∙ ap (λ (t : List ℕ). getD s i 0 ∷ getD s (i + 1) 0 ∷ getD s (i + 2) 0 ∷ t) (rw last at (next s (i + 3) (omega arith)))

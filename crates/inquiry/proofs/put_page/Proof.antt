@@ -77,7 +77,9 @@ unfolding page
 returns-5 c = rw (← c .before .before .before .before .before .before .before .before .before .before .before .before .packet-drive .ensures, sym (c .before .before .before .before .before .before .before .before .before .before .before .standard-asked .ensures) ∙ c .before .before .before .before .before .before .before .before .before .before .if1 .left, ne-eqb _ _ (c .before .before .before .before .before .before .before .before .if2 .left), ne-eqb _ _ (c .before .before .before .before .before .before .if4 .left), eq-eqb _ _ (c .before .before .before .before .if5 .taken)) (c .before .before .put2 .ensures)
 
 put-information-requires : tie.Need-put-information-requires
-put-information-requires c κs = (c .before .before .before .before .before .before .before .before .before .before .before .before .before .before .before .before .pre .texts, c .before .before .before .before .before .before .before .before .before .before .before .before .before .before .before .before .pre .signature)
+put-information-requires c κs =
+    let s = c .before .before .before .before .before .before .before .before .before .before .before .before .before .before .before .before .pre in
+    (s .texts, (s .signature, s .whole-or-none))
 
 same-length-6 : tie.Need-same-length-6
 same-length-6 c = search needs

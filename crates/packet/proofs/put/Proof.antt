@@ -28,11 +28,11 @@ cast-t8 c =
     let byte = l .shared-slice-known .given 3 .fits in
     omega (arith, rw (n .before .listed .ensures) at (n .count .ensures .0), length-fits (a .args .reply .now) byte (a .pre))
 
-slice-aggregate-put : tie.Need-slice-aggregate-put
-slice-aggregate-put c = search needs
+slice-aggregate-put-short : tie.Need-slice-aggregate-put-short
+slice-aggregate-put-short c = search needs
 
-put-requires : tie.Need-put-requires
-put-requires c κs = search needs
+put-short-requires : tie.Need-put-short-requires
+put-short-requires c κs = search needs
 
 put-codes-requires : tie.Need-put-codes-requires
 put-codes-requires c κs = search needs
@@ -47,7 +47,7 @@ returns c =
     let b = p .before .before .before in
     let n = b .before .before in
     rw (← n .before .listed .ensures, ← n .count .ensures .0, ← b .before .byte .ensures, ← b .byte2 .ensures)
-    (beside (p .put .ensures) (c .before .before .put-codes .ensures) refl)
+    (beside (p .put-short .ensures) (c .before .before .put-codes .ensures) refl)
 
 pub put-spec : {M : Type 1} → statement M
 put-spec =
@@ -58,8 +58,8 @@ put-spec =
     byte-requires
     byte-requires-2
     cast-t8
-    slice-aggregate-put
-    put-requires
+    slice-aggregate-put-short
+    put-short-requires
     put-codes-requires
     same-length
     returns)

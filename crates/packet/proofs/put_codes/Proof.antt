@@ -21,17 +21,11 @@ slice-aggregate-put c = sym (length-take-le _ _ (c .before .before .before .plac
 put-requires : tie.Need-put-requires
 put-requires c κs = search needs
 
+put-byte-requires : tie.Need-put-byte-requires
+put-byte-requires c κs = search needs
+
 add-put : tie.Need-add-put
 add-put c = search needs
-
-slice-aggregate-put-2 : tie.Need-slice-aggregate-put-2
-slice-aggregate-put-2 c = search needs
-
-put-requires-2 : tie.Need-put-requires-2
-put-requires-2 c κs = search needs
-
-add-put-2 : tie.Need-add-put-2
-add-put-2 c = search needs
 
 sub-put : tie.Need-sub-put
 sub-put c = search needs
@@ -42,8 +36,8 @@ part-put-start c = search needs
 part-put-end : tie.Need-part-put-end
 part-put-end c = search needs
 
-put-requires-3 : tie.Need-put-requires-3
-put-requires-3 c κs = search needs
+put-requires-2 : tie.Need-put-requires-2
+put-requires-2 c κs = search needs
 
 same-length : tie.Need-same-length
 same-length c = search needs
@@ -52,15 +46,15 @@ returns : tie.Need-returns
 returns c =
     let t = c .before .before in
     let h = t .before .before .before .before .before in
-    let p = h .before .before .before .before .before in
+    let p = h .before .before .before .before in
     let b = p .before .before .before in
     let at = b .before .place in
     let s = b .before .before .before .before .args .codes .now in
     let l = length-take-le (at .result) s (at .ensures .1) in
     let m = length-drop (b .behind .result) s in
-    let rest = rw (take-all (length s - b .behind .result) (drop (b .behind .result) s) (omega arith)) at (t .put3 .ensures) in
+    let rest = rw (take-all (length s - b .behind .result) (drop (b .behind .result) s) (omega arith)) at (t .put2 .ensures) in
     rw (b .behind .ensures .0, ← at .ensures .0)
-    (beside (p .put .ensures) (beside (h .put2 .ensures) rest (omega arith)) (omega arith))
+    (beside (p .put .ensures) (beside (h .put-byte .ensures) rest (omega arith)) (omega arith))
 
 pub put-codes-spec : {M : Type 1} → statement M
 put-codes-spec =
@@ -70,13 +64,11 @@ put-codes-spec =
     behind-requires
     slice-aggregate-put
     put-requires
+    put-byte-requires
     add-put
-    slice-aggregate-put-2
-    put-requires-2
-    add-put-2
     sub-put
     part-put-start
     part-put-end
-    put-requires-3
+    put-requires-2
     same-length
     returns)

@@ -1,52 +1,68 @@
--- `put_texts`: the head, the model beside it, and the serial number beside that.
+-- `put_texts`: whole where it fits, else piece by piece.
 use mathlib.Core.Path.{refl}
 use native.Mathlib.Omega.{arith}
 use Rattle.room.proofs.Laws.{beside}
-use Rattle.page83.proofs.Laws.{length-model}
+use Rattle.identify.proofs.Block.{length-serial, length-model}
+use Rattle.page83.proofs.Laws.{length-model-text}
 use borrow.Author.Needs.{needs}
 use Rattle.page83.proofs.put_texts.Statement.{statement}
 use Rattle.page83.proofs.put_texts.Tie as tie
 
-slice-aggregate-put : tie.Need-slice-aggregate-put
-slice-aggregate-put c = search needs
-
-put-requires : tie.Need-put-requires
-put-requires c κs = search needs
-
-model-requires : tie.Need-model-requires
-model-requires c κs = search needs
-
-put-spaced-requires : tie.Need-put-spaced-requires
-put-spaced-requires c κs = search needs
-
-serial-requires : tie.Need-serial-requires
-serial-requires c κs = search needs
-
-put-spaced-requires-2 : tie.Need-put-spaced-requires-2
-put-spaced-requires-2 c κs = search needs
+store-texts-requires : tie.Need-store-texts-requires
+store-texts-requires c κs = search needs
 
 same-length : tie.Need-same-length
 same-length c = search needs
 
 returns : tie.Need-returns
-returns c =
+returns c = search needs
+
+slice-aggregate-put-short : tie.Need-slice-aggregate-put-short
+slice-aggregate-put-short c = search needs
+
+put-short-requires : tie.Need-put-short-requires
+put-short-requires c κs = search needs
+
+model-requires : tie.Need-model-requires
+model-requires c κs = search needs
+
+put-spaced-requires : tie.Need-put-spaced-requires
+put-spaced-requires c κs =
+    let a = c .before .before .before .before .before .before .before .before .before .before in
+    rw (c .model .ensures, length-model (a .args .block .now) (a .pre)) (omega arith)
+
+serial-requires : tie.Need-serial-requires
+serial-requires c κs = search needs
+
+put-spaced-requires-2 : tie.Need-put-spaced-requires-2
+put-spaced-requires-2 c κs =
+    let a = c .before .before .before .before .before .before .before .before .before .before .before .before .before .before .before in
+    rw (c .serial .ensures, length-serial (a .args .block .now) (a .pre)) (omega arith)
+
+same-length-2 : tie.Need-same-length-2
+same-length-2 c = search needs
+
+returns-2 : tie.Need-returns-2
+returns-2 c =
     let s = c .before .before .before in
-    let p = s .before .before .before .before in
-    let m = p .before in
-    let h = m .before .before .before .before in
-    let a = h .before .before .before .before .before in
-    beside (beside (h .put .ensures) (rw (m .model .ensures) at (p .put-spaced .ensures)) refl)
-    (rw (s .serial .ensures) at (c .before .before .put-spaced2 .ensures)) (omega (arith, length-model (a .args .block .now) (a .pre)))
+    let p = c .before .before .before .before .before .before .before in
+    let h = c .before .before .before .before .before .before .before .before .before .before .before .before in
+    let a = c .before .before .before .before .before .before .before .before .before .before .before .before .before .before .before .before .before .before in
+    beside (beside (h .put-short .ensures) (rw (p .before .model .ensures) at (p .put-spaced .ensures)) refl)
+    (rw (s .serial .ensures) at (c .before .before .put-spaced2 .ensures)) (omega (arith, length-model-text (a .args .block .now) (a .pre)))
 
 pub put-texts-spec : {M : Type 1} → statement M
 put-texts-spec =
     tie.close
     (tie.spec
-    slice-aggregate-put
-    put-requires
+    store-texts-requires
+    same-length
+    returns
+    slice-aggregate-put-short
+    put-short-requires
     model-requires
     put-spaced-requires
     serial-requires
     put-spaced-requires-2
-    same-length
-    returns)
+    same-length-2
+    returns-2)

@@ -26,8 +26,8 @@ returns-2 c =
     let named = sym (c .before .before .before .carries-name .ensures) ∙ c .before .before .if2 .taken in
     rw (c .wrote2 .ensures) (sym (too-little (a .args .block .now) (a .args .room .now) (c .before .before .before .before .if1 .left) (length-named (a .args .block .now) (c .before .before .before .before .if1 .left) named) (c .before .if3 .taken)))
 
-put-name-requires : tie.Need-put-name-requires
-put-name-requires c κs = search needs
+store-name-requires : tie.Need-store-name-requires
+store-name-requires c κs = search needs
 
 wrote-requires-3 : tie.Need-wrote-requires-3
 wrote-requires-3 c κs = search needs
@@ -39,7 +39,7 @@ returns-3 : tie.Need-returns-3
 returns-3 c =
     let a = c .before .before .before .before .before .before .before .before .before .before .before in
     let named = sym (c .before .before .before .before .before .before .before .carries-name .ensures) ∙ c .before .before .before .before .before .before .if2 .taken in
-    rw (c .wrote3 .ensures, c .before .before .before .put-name .ensures .leaves, ← named-page (a .args .block .now) named) (sym (enough (a .args .block .now) (a .args .room .now) (c .before .before .before .before .before .before .before .before .if1 .left) (length-named (a .args .block .now) (c .before .before .before .before .before .before .before .before .if1 .left) named) (c .before .before .before .before .before .if3 .left)))
+    rw (c .wrote3 .ensures, c .before .before .before .store-name .ensures .leaves, ← named-page (a .args .block .now) named) (sym (enough (a .args .block .now) (a .args .room .now) (c .before .before .before .before .before .before .before .before .if1 .left) (length-named (a .args .block .now) (c .before .before .before .before .before .before .before .before .if1 .left) named) (c .before .before .before .before .before .if3 .left)))
 
 wrote-requires-4 : tie.Need-wrote-requires-4
 wrote-requires-4 c κs = search needs
@@ -50,8 +50,8 @@ returns-4 c =
     let named = sym (c .before .before .before .carries-name .ensures) ∙ c .before .before .if2 .left in
     rw (c .wrote4 .ensures) (sym (too-little (a .args .block .now) (a .args .room .now) (c .before .before .before .before .if1 .left) (length-unnamed (a .args .block .now) (c .before .before .before .before .if1 .left) named) (c .before .if4 .taken)))
 
-put-texts-requires : tie.Need-put-texts-requires
-put-texts-requires c κs = search needs
+store-texts-requires : tie.Need-store-texts-requires
+store-texts-requires c κs = search needs
 
 wrote-requires-5 : tie.Need-wrote-requires-5
 wrote-requires-5 c κs = search needs
@@ -63,7 +63,7 @@ returns-5 : tie.Need-returns-5
 returns-5 c =
     let a = c .before .before .before .before .before .before .before .before .before .before .before in
     let named = sym (c .before .before .before .before .before .before .before .carries-name .ensures) ∙ c .before .before .before .before .before .before .if2 .left in
-    rw (c .wrote5 .ensures, c .before .before .before .put-texts .ensures .leaves, ← unnamed-page (a .args .block .now) named) (sym (enough (a .args .block .now) (a .args .room .now) (c .before .before .before .before .before .before .before .before .if1 .left) (length-unnamed (a .args .block .now) (c .before .before .before .before .before .before .before .before .if1 .left) named) (c .before .before .before .before .before .if4 .left)))
+    rw (c .wrote5 .ensures, c .before .before .before .store-texts .ensures .leaves, ← unnamed-page (a .args .block .now) named) (sym (enough (a .args .block .now) (a .args .room .now) (c .before .before .before .before .before .before .before .before .if1 .left) (length-unnamed (a .args .block .now) (c .before .before .before .before .before .before .before .before .if1 .left) named) (c .before .before .before .before .before .if4 .left)))
 
 pub write-spec : {M : Type 1} → statement M
 write-spec =
@@ -74,13 +74,13 @@ write-spec =
     carries-name-requires
     wrote-requires-2
     returns-2
-    put-name-requires
+    store-name-requires
     wrote-requires-3
     same-length
     returns-3
     wrote-requires-4
     returns-4
-    put-texts-requires
+    store-texts-requires
     wrote-requires-5
     same-length-2
     returns-5)

@@ -1,4 +1,7 @@
 -- `put_block`: the block, or the zeros that stand in for it.
+use mathlib.Core.Path.{sym}
+use native.Mathlib.Omega.{arith}
+use lib.Seq.{length-take-le, take-all}
 use borrow.Author.Tests.{eq-eqb, ne-eqb}
 use borrow.Author.Needs.{needs}
 use Rattle.pages.proofs.put_block.Statement.{statement}
@@ -13,6 +16,11 @@ same-length c = search needs
 returns : tie.Need-returns
 returns c = rw (eq-eqb _ _ (c .before .before .before .before .if1 .taken)) (c .before .before .put-zeros .ensures)
 
+slice-aggregate-put : tie.Need-slice-aggregate-put
+slice-aggregate-put c =
+    let b = c .before .before .before .before .before in
+    sym (length-take-le 512 (b .args .block .now) (omega (arith, b .pre (c .before .before .if1 .left))))
+
 put-requires : tie.Need-put-requires
 put-requires c κs = search needs
 
@@ -20,9 +28,12 @@ same-length-2 : tie.Need-same-length-2
 same-length-2 c = search needs
 
 returns-2 : tie.Need-returns-2
-returns-2 c = rw (ne-eqb _ _ (c .before .before .before .before .if1 .left)) (c .before .before .put .ensures)
+returns-2 c =
+    let b = c .before .before .before .before .before .before .before .before in
+    let some = c .before .before .before .before .before .if1 .left in
+    rw (ne-eqb _ _ some) (rw (take-all 512 (b .args .block .now) (omega (arith, b .pre some))) at (c .before .before .put .ensures))
 
 pub put-block-spec : {M : Type 1} → statement M
 put-block-spec =
     tie.close
-    (tie.spec put-zeros-requires same-length returns put-requires same-length-2 returns-2)
+    (tie.spec put-zeros-requires same-length returns slice-aggregate-put put-requires same-length-2 returns-2)

@@ -1,7 +1,9 @@
 -- `put_standard`: the head, the product text beside it, the revision beside that.
 use mathlib.Core.Path.{refl}
 use native.Mathlib.Omega.{arith}
+use lib.Seq.{length-take-le}
 use Rattle.room.proofs.Laws.{beside}
+use Rattle.identify.proofs.Block.{length-model}
 use Rattle.identify.proofs.Text.{take-turned}
 use Rattle.identify.specs.Block.{model}
 use Rattle.pages.specs.Page.{standard}
@@ -13,23 +15,26 @@ use Rattle.pages.proofs.put_standard.Tie as tie
 removable-requires : tie.Need-removable-requires
 removable-requires c κs = search needs
 
-slice-aggregate-put : tie.Need-slice-aggregate-put
-slice-aggregate-put c = search needs
+slice-aggregate-put-short : tie.Need-slice-aggregate-put-short
+slice-aggregate-put-short c = search needs
 
-put-requires : tie.Need-put-requires
-put-requires c κs = search needs
+put-short-requires : tie.Need-put-short-requires
+put-short-requires c κs = search needs
 
 product-requires : tie.Need-product-requires
 product-requires c κs = search needs
 
 put-turned-requires : tie.Need-put-turned-requires
-put-turned-requires c κs = search needs
+put-turned-requires c κs =
+    let a = c .before .before .before .before .before .before .before .before .before .before in
+    let block = a .args .block .now in
+    rw (c .product .ensures, length-take-le 16 (model block) (omega (arith, length-model block (a .pre)))) (omega arith)
 
-slice-aggregate-put-2 : tie.Need-slice-aggregate-put-2
-slice-aggregate-put-2 c = search needs
+slice-aggregate-put-short-2 : tie.Need-slice-aggregate-put-short-2
+slice-aggregate-put-short-2 c = search needs
 
-put-requires-2 : tie.Need-put-requires-2
-put-requires-2 c κs = search needs
+put-short-requires-2 : tie.Need-put-short-requires-2
+put-short-requires-2 c κs = search needs
 
 same-length : tie.Need-same-length
 same-length c = search needs
@@ -41,19 +46,19 @@ returns c =
     let h = p .before .before .before .before in
     let a = h .before .before .before .before .before .before in
     let block = a .args .block .now in
-    beside (beside (rw (h .before .before .before .removable .ensures) at (h .put .ensures)) (rw (p .product .ensures, ← take-turned 8 (model block)) at (c .before .before .before .before .before .before .before .put-turned .ensures)) refl)
-    (c .before .before .put2 .ensures) (omega (arith, length-product block (a .pre)))
+    beside (beside (rw (h .before .before .before .removable .ensures) at (h .put-short .ensures)) (rw (p .product .ensures, ← take-turned 8 (model block)) at (c .before .before .before .before .before .before .before .put-turned .ensures)) refl)
+    (c .before .before .put-short2 .ensures) (omega (arith, length-product block (a .pre)))
 
 pub put-standard-spec : {M : Type 1} → statement M
 put-standard-spec =
     tie.close
     (tie.spec
     removable-requires
-    slice-aggregate-put
-    put-requires
+    slice-aggregate-put-short
+    put-short-requires
     product-requires
     put-turned-requires
-    slice-aggregate-put-2
-    put-requires-2
+    slice-aggregate-put-short-2
+    put-short-requires-2
     same-length
     returns)

@@ -1,19 +1,21 @@
 -- `copy`: before turn i the first i bytes stand in the room, and what is left to write takes the room to where it is to be.
 use mathlib.Core.Path.{refl}
-use Prim.Native.Nat.{_-_}
+use mathlib.Core.List.{[], _∷_}
+use Prim.Native.Nat.{_-_, _≤_}
 use native.Mathlib.Omega.{arith}
-use Rattle.room.proofs.Laws.{Writing, begin, turn, done}
+use lib.ListN.{getD}
+use Rattle.room.proofs.Laws.{Writing, begin, turn, next, done}
 use Rattle.room.proofs.copy.Statement.{statement}
 use Rattle.room.proofs.copy.Tie as tie
 
 abbrev Inv-loop : tie.InvT-loop
-Inv-loop room₀ at bytes n i₀ room i = Writing room₀ at bytes n room i
+Inv-loop room₀ at bytes n i₀ room i = Writing room₀ at bytes room i × (i ≤ n)
 
 abbrev μ-loop : tie.MeasureT-loop
 μ-loop room₀ at bytes n i₀ room i = n - i
 
 loop-holds : tie.Need-loop-holds Inv-loop μ-loop
-loop-holds c = begin _ _ _ refl (c .pre)
+loop-holds c = (begin _ _ _, omega arith)
 
 shared-slice-read-room : tie.Need-shared-slice-read-room Inv-loop μ-loop
 shared-slice-read-room c = omega arith
@@ -31,13 +33,16 @@ loop-less : tie.Need-loop-less Inv-loop μ-loop
 loop-less c = omega arith
 
 loop-again : tie.Need-loop-again Inv-loop μ-loop
-loop-again c = turn _ (c .before .before .loop .inv) (c .before .loop-test .taken) refl
+loop-again c =
+    let l = c .before .before .loop in
+    let b = c .before .before .before in
+    (turn {piece = getD (b .args .bytes .now) (l .i) 0 ∷ []} (l .inv .0) (record { leaves = refl }) (next (b .args .bytes .now) (l .i) (omega (arith, b .pre))) refl, omega arith)
 
 same-length : tie.Need-same-length Inv-loop μ-loop
 same-length c = omega arith
 
 returns : tie.Need-returns Inv-loop μ-loop
-returns c = done (c .before .loop .inv) (c .loop-test .left)
+returns c = done (c .before .loop .inv .0) (omega arith)
 
 pub copy-spec : {M : Type 1} → statement M
 copy-spec =

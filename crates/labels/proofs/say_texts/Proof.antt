@@ -1,0 +1,39 @@
+-- `say_texts`: 40 bytes, and 20.
+use native.Mathlib.Omega.{arith}
+use Rattle.identify.proofs.Block.{length-serial, length-model}
+use borrow.Author.Needs.{needs}
+use Rattle.labels.proofs.say_texts.Statement.{statement}
+use Rattle.labels.proofs.say_texts.Tie as tie
+
+model-requires : tie.Need-model-requires
+model-requires c κs = search needs
+
+say-text-requires : tie.Need-say-text-requires
+say-text-requires c κs =
+    let a = c .before .before in
+    rw (c .model .ensures, length-model (a .args .block .now) (a .pre)) (omega arith, omega arith)
+
+serial-requires : tie.Need-serial-requires
+serial-requires c κs = search needs
+
+say-text-requires-2 : tie.Need-say-text-requires-2
+say-text-requires-2 c κs =
+    let a = c .before .before .before .before .before in
+    rw (c .serial .ensures, length-serial (a .args .block .now) (a .pre)) (omega arith, omega arith)
+
+returns : tie.Need-returns
+returns c = search needs
+
+returns-2 : tie.Need-returns-2
+returns-2 c = search needs
+
+pub say-texts-spec : {M : Type 1} → statement M
+say-texts-spec =
+    tie.close
+    (tie.spec
+    model-requires
+    say-text-requires
+    serial-requires
+    say-text-requires-2
+    returns
+    returns-2)

@@ -1,0 +1,56 @@
+-- `store_texts`: the head, the model beside it, and the serial number beside that.
+use mathlib.Core.Path.{refl}
+use native.Mathlib.Omega.{arith}
+use Rattle.room.proofs.Laws.{beside}
+use Rattle.identify.proofs.Block.{length-serial, length-model}
+use Rattle.page83.proofs.Laws.{length-model-text}
+use borrow.Author.Needs.{needs}
+use Rattle.page83.proofs.store_texts.Statement.{statement}
+use Rattle.page83.proofs.store_texts.Tie as tie
+
+slice-aggregate-store : tie.Need-slice-aggregate-store
+slice-aggregate-store c = search needs
+
+store-requires : tie.Need-store-requires
+store-requires c κs = search needs
+
+model-requires : tie.Need-model-requires
+model-requires c κs = search needs
+
+store-spaced-requires : tie.Need-store-spaced-requires
+store-spaced-requires c κs =
+    let a = c .before .before .before .before .before .before .before .before .before in
+    rw (c .model .ensures, length-model (a .args .block .now) (a .pre .0)) (omega arith, omega arith)
+
+serial-requires : tie.Need-serial-requires
+serial-requires c κs = search needs
+
+store-spaced-requires-2 : tie.Need-store-spaced-requires-2
+store-spaced-requires-2 c κs =
+    let a = c .before .before .before .before .before .before .before .before .before .before .before .before .before .before in
+    rw (c .serial .ensures, length-serial (a .args .block .now) (a .pre .0)) (omega arith, omega arith)
+
+same-length : tie.Need-same-length
+same-length c = search needs
+
+returns : tie.Need-returns
+returns c =
+    let s = c .before .before .before in
+    let p = c .before .before .before .before .before .before .before in
+    let h = c .before .before .before .before .before .before .before .before .before .before .before .before in
+    let a = c .before .before .before .before .before .before .before .before .before .before .before .before .before .before .before .before .before in
+    beside (beside (h .store .ensures) (rw (p .before .model .ensures) at (p .store-spaced .ensures)) refl)
+    (rw (s .serial .ensures) at (c .before .before .store-spaced2 .ensures)) (omega (arith, length-model-text (a .args .block .now) (a .pre .0)))
+
+pub store-texts-spec : {M : Type 1} → statement M
+store-texts-spec =
+    tie.close
+    (tie.spec
+    slice-aggregate-store
+    store-requires
+    model-requires
+    store-spaced-requires
+    serial-requires
+    store-spaced-requires-2
+    same-length
+    returns)
