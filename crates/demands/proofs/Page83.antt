@@ -12,10 +12,10 @@ use lib.ListN.{length, getD, take, drop, replicate, length-append, length-take, 
 use lib.Seq.{take-at, drop-at, drop-drop}
 use borrow.Author.Tests.{eq-eqb, eqb-true}
 use Rattle.identify.specs.Block.{words, serial, model, name}
-use Rattle.identify.specs.Text.{turned, space, spaced}
+use Rattle.texts.specs.Text.{turned, space, spaced}
 use Rattle.identify.specs.Drive.{someBit, carriesName, equal, sameDrive}
 use Rattle.identify.proofs.Block.{length-name}
-use Rattle.identify.proofs.Text.{turned-twice, turned-injective, turned-map, length-turned}
+use Rattle.texts.proofs.Text.{turned-twice, turned-injective, turned-map, length-turned}
 use Rattle.identify.proofs.Drive.{equal-same, OneName, OneText, same-drive-means, same-drive-when}
 use Rattle.page83.specs.declared.Name.{Name}
 use Rattle.page83.specs.Page83.{page83, namePage, textPage, Outcome, write}

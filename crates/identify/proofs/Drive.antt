@@ -10,9 +10,9 @@ use lib.Dec.{eqb, eqb·suc-zero}
 use lib.ListN.{length, getD, length-map}
 use borrow.Author.Tests.{eq-eqb, ne-eqb, eqb-true}
 use Rattle.identify.specs.Block.{serial, model, name}
-use Rattle.identify.specs.Text.{spaced}
+use Rattle.texts.specs.Text.{spaced}
 use Rattle.identify.specs.Drive.{someBit, carriesName, equal, sameDrive}
-use Rattle.identify.proofs.Text.{getD-map}
+use Rattle.texts.proofs.Text.{getD-map}
 
 -- No bit is one where every byte is zero, and some bit is one where some byte is not.
 pub no-bit : (s : List ℕ) → ((k : ℕ) → k < length s → getD s k 0 ≡ 0) → someBit s ≡ false

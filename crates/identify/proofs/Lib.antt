@@ -1,4 +1,3 @@
--- The laws of blocks, texts and drives, for the crates above.
+-- The laws of blocks and drives, for the crates above.
 pub mod Block
-pub mod Text
 pub mod Drive

@@ -4,7 +4,7 @@ use mathlib.Core.List.{List, [], _∷_}
 use Prim.Native.Nat.{ℕ}
 use lib.Dec.{eqb}
 use Rattle.identify.specs.Block.{serial, model, name}
-use Rattle.identify.specs.Text.{spaced}
+use Rattle.texts.specs.Text.{spaced}
 
 -- Some byte is not zero, so some bit is one.
 unfoldable pub someBit : List ℕ → Bool

@@ -1,4 +1,3 @@
 -- The IDENTIFY block, as document 01 reads it.
 pub mod Block
-pub mod Text
 pub mod Drive

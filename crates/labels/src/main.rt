@@ -16,7 +16,7 @@ fn say_text(text: &[u8]) -> bool
     requires { ⌜ (length (now text) ≤ 40) × (length (now text) % 4 ≡ 0) ⌝ }
 {
     let mut shown = [0u8; 40];
-    identify::put_spaced(&mut shown, 0, text);
+    texts::put_spaced(&mut shown, 0, text);
     say(b" [") && say(&shown[..text.len()]) && say(b"]")
 }
 

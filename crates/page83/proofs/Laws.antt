@@ -8,10 +8,10 @@ use lib.ListN.{length, length-append}
 use borrow.Author.Tests.{eq-eqb, lt-ltb, le-ltb}
 use Rattle.room.specs.Room.{written}
 use Rattle.identify.specs.Block.{serial, model, name}
-use Rattle.identify.specs.Text.{turned, spaced}
+use Rattle.texts.specs.Text.{turned, spaced}
 use Rattle.identify.specs.Drive.{carriesName}
 use Rattle.identify.proofs.Block.{length-serial, length-model, length-name}
-use Rattle.identify.proofs.Text.{length-turned, length-spaced}
+use Rattle.texts.proofs.Text.{length-turned, length-spaced}
 use Rattle.page83.specs.Page83.{page83, namePage, textPage, ata, refusalOf, outcome, write}
 
 module _ (block : List ℕ) where

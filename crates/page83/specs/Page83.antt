@@ -7,7 +7,7 @@ use lib.ListN.{length}
 use Rattle.rules.specs.Checks.{_⇒_, first}
 use Rattle.room.specs.Room.{written}
 use Rattle.identify.specs.Block.{serial, model, name}
-use Rattle.identify.specs.Text.{turned, spaced}
+use Rattle.texts.specs.Text.{turned, spaced}
 use Rattle.identify.specs.Drive.{carriesName}
 use Rattle.page83.specs.declared.Written.{Written}
 

@@ -9,7 +9,7 @@ ghost use Prim.Native.Nat.{_≤_};
 ghost use lib.ListN.{length};
 ghost use Rattle.room.specs.Room.{Wrote};
 ghost use Rattle.identify.specs.Block.{serial, model, name};
-ghost use Rattle.identify.specs.Text.{turned, spaced};
+ghost use Rattle.texts.specs.Text.{turned, spaced};
 ghost use Rattle.page83.specs.Page83.{page83, namePage, textPage, outcome, write as Page83·write};
 
 // What a page that names the drive starts with: PAGE CODE, PAGE LENGTH, and the head of its one descriptor (CODE SET binary,
@@ -57,7 +57,7 @@ fn store_name(room: &mut [u8], block: &[u8])
     ensures { λ _. ⌜ Wrote (now (room .entry)) 0 (namePage (turned (name (now (block .entry))))) (now (room .exit)) ⌝ }
 {
     room::store(room, 0, &NAME_HEAD);
-    identify::store_turned(room, 8, identify::name(block));
+    texts::store_turned(room, 8, identify::name(block));
 }
 
 // As much of it as fits.
@@ -70,7 +70,7 @@ fn put_name(room: &mut [u8], block: &[u8])
         return;
     }
     room::put_short(room, 0, &NAME_HEAD);
-    identify::put_turned(room, 8, identify::name(block));
+    texts::put_turned(room, 8, identify::name(block));
 }
 
 // The page of a drive that carries none, in room that holds it.
@@ -79,8 +79,8 @@ fn store_texts(room: &mut [u8], block: &[u8])
     ensures { λ _. ⌜ Wrote (now (room .entry)) 0 (textPage (spaced (turned (model (now (block .entry))))) (spaced (turned (serial (now (block .entry)))))) (now (room .exit)) ⌝ }
 {
     room::store(room, 0, &TEXT_HEAD);
-    identify::store_spaced(room, 16, identify::model(block));
-    identify::store_spaced(room, 56, identify::serial(block));
+    texts::store_spaced(room, 16, identify::model(block));
+    texts::store_spaced(room, 56, identify::serial(block));
 }
 
 // As much of it as fits.
@@ -93,8 +93,8 @@ fn put_texts(room: &mut [u8], block: &[u8])
         return;
     }
     room::put_short(room, 0, &TEXT_HEAD);
-    identify::put_spaced(room, 16, identify::model(block));
-    identify::put_spaced(room, 56, identify::serial(block));
+    texts::put_spaced(room, 16, identify::model(block));
+    texts::put_spaced(room, 56, identify::serial(block));
 }
 
 // Writes the page of a block, as much of it as fits.

@@ -6,9 +6,9 @@ use Prim.Native.Nat.{ℕ, _+_, _-_, _≤_, min}
 use native.Mathlib.Omega.{arith}
 use lib.ListN.{length, take, length-append, length-take}
 use Rattle.identify.specs.Block.{serial, model}
-use Rattle.identify.specs.Text.{turned, spaced}
+use Rattle.texts.specs.Text.{turned, spaced}
 use Rattle.identify.proofs.Block.{length-serial, length-model}
-use Rattle.identify.proofs.Text.{length-turned, length-spaced}
+use Rattle.texts.proofs.Text.{length-turned, length-spaced}
 use Rattle.page83.specs.Page83.{ata}
 use Rattle.pages.specs.Page.{standard, page00, page80, page89, typeByte, commandCode, blockOrZeros, revision}
 

@@ -6,7 +6,7 @@ use Prim.Native.Nat.{ℕ}
 use lib.Dec.{eqb}
 use lib.ListN.{length, take, replicate}
 use Rattle.identify.specs.Block.{word, serial, model}
-use Rattle.identify.specs.Text.{turned, spaced}
+use Rattle.texts.specs.Text.{turned, spaced}
 use Rattle.page83.specs.Page83.{ata}
 use Rattle.rules.specs.Bits.{bit, bits}
 

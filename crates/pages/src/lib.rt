@@ -54,7 +54,7 @@ pub fn put_standard(room: &mut [u8], block: &[u8])
     ];
     room::put_short(room, 0, &head);
     // PRODUCT IDENTIFICATION
-    identify::put_turned(room, 16, product(block));
+    texts::put_turned(room, 16, product(block));
     // PRODUCT REVISION LEVEL
     let revision = [b' ', b' ', b' ', b' '];
     room::put_short(room, 32, &revision);
@@ -86,7 +86,7 @@ pub fn put_serial(room: &mut [u8], block: &[u8])
 {
     let head = [0x00u8, 0x80u8, 0x00u8, 0x14u8];
     room::put_short(room, 0, &head);
-    identify::put_spaced(room, 4, identify::serial(block));
+    texts::put_spaced(room, 4, identify::serial(block));
 }
 
 pub const SERIAL_SIZE: usize = 24;

@@ -1,7 +1,7 @@
 -- "C1 to C13 are proved of the rules themselves, as a single statement over one list of cases"
 use mathlib.Core.Path.{_≡_, refl}
 use mathlib.Core.Bool.{true}
-use Rattle.identify.specs.Text.{turned}
+use Rattle.texts.specs.Text.{turned}
 use Rattle.identify.specs.Drive.{someBit, carriesName, equal}
 use Rattle.sense.specs.Sense.{senseData}
 use Rattle.sense.specs.Refusal.{rowOf, refusedSense}

@@ -1,5 +1,5 @@
 -- `same_bytes`: bytes compared as they stand.
-use Rattle.identify.proofs.Text.{shown-as-it-is}
+use Rattle.texts.proofs.Text.{shown-as-it-is}
 use borrow.Author.Needs.{needs}
 use Rattle.identify.proofs.same_bytes.Statement.{statement}
 use Rattle.identify.proofs.same_bytes.Tie as tie

@@ -4,7 +4,7 @@ use native.Mathlib.Omega.{arith}
 use lib.Seq.{length-take-le}
 use Rattle.room.proofs.Laws.{beside}
 use Rattle.identify.proofs.Block.{length-model}
-use Rattle.identify.proofs.Text.{take-turned}
+use Rattle.texts.proofs.Text.{take-turned}
 use Rattle.identify.specs.Block.{model}
 use Rattle.pages.specs.Page.{standard}
 use Rattle.pages.proofs.Laws.{length-product}

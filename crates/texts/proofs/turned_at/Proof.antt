@@ -2,10 +2,10 @@
 use mathlib.Core.Path.{_∙_, sym}
 use native.Mathlib.Omega.{arith}
 use borrow.Author.Needs.{needs}
-use Rattle.identify.specs.Text.{shown}
-use Rattle.identify.proofs.Text.{turned-pair, turned-last}
-use Rattle.identify.proofs.turned_at.Statement.{statement}
-use Rattle.identify.proofs.turned_at.Tie as tie
+use Rattle.texts.specs.Text.{shown}
+use Rattle.texts.proofs.Text.{turned-pair, turned-last}
+use Rattle.texts.proofs.turned_at.Statement.{statement}
+use Rattle.texts.proofs.turned_at.Tie as tie
 
 add-j : tie.Need-add-j
 add-j c = search needs

@@ -4,11 +4,11 @@ use Prim.Native.Nat.{_-_, _%_}
 use native.Mathlib.Omega.{arith}
 use lib.ListN.{length}
 use Rattle.room.proofs.Laws.{Writing, begin, turn, done}
-use Rattle.identify.specs.Text.{turned, space, spaced}
-use Rattle.identify.proofs.Text.{length-text, two-words}
+use Rattle.texts.specs.Text.{turned, space, spaced}
+use Rattle.texts.proofs.Text.{length-text, two-words}
 use borrow.Author.Needs.{needs}
-use Rattle.identify.proofs.store_spaced.Statement.{statement}
-use Rattle.identify.proofs.store_spaced.Tie as tie
+use Rattle.texts.proofs.store_spaced.Statement.{statement}
+use Rattle.texts.proofs.store_spaced.Tie as tie
 
 abbrev Inv-loop : tie.InvT-loop
 Inv-loop room₀ at text i₀ room i = Writing room₀ at (spaced (turned text)) room i × (i % 4 ≡ 0)

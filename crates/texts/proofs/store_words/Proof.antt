@@ -1,10 +1,10 @@
 -- `store_words`: the first two words, and the other two beside them.
 use mathlib.Core.Path.{refl}
 use Rattle.room.proofs.Laws.{beside}
-use Rattle.identify.proofs.Text.{four-words}
+use Rattle.texts.proofs.Text.{four-words}
 use borrow.Author.Needs.{needs}
-use Rattle.identify.proofs.store_words.Statement.{statement}
-use Rattle.identify.proofs.store_words.Tie as tie
+use Rattle.texts.proofs.store_words.Statement.{statement}
+use Rattle.texts.proofs.store_words.Tie as tie
 
 add-e : tie.Need-add-e
 add-e c = search needs

@@ -5,11 +5,11 @@ use Prim.Native.Nat.{_-_}
 use native.Mathlib.Omega.{arith}
 use lib.ListN.{length}
 use Rattle.room.proofs.Laws.{Writing, begin, turn, next, done}
-use Rattle.identify.specs.Text.{turned, shown}
-use Rattle.identify.proofs.Text.{length-text}
+use Rattle.texts.specs.Text.{turned, shown}
+use Rattle.texts.proofs.Text.{length-text}
 use borrow.Author.Needs.{needs}
-use Rattle.identify.proofs.put_each.Statement.{statement}
-use Rattle.identify.proofs.put_each.Tie as tie
+use Rattle.texts.proofs.put_each.Statement.{statement}
+use Rattle.texts.proofs.put_each.Tie as tie
 
 abbrev Inv-loop : tie.InvT-loop
 Inv-loop room₀ at text spaced i₀ room i = Writing room₀ at (map (shown spaced) (turned text)) room i

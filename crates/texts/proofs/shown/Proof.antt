@@ -1,8 +1,8 @@
 -- `shown`: each way by its tests.
 use borrow.Author.Needs.{needs}
 use borrow.Author.Tests.{eq-eqb, ne-eqb}
-use Rattle.identify.proofs.shown.Statement.{statement}
-use Rattle.identify.proofs.shown.Tie as tie
+use Rattle.texts.proofs.shown.Statement.{statement}
+use Rattle.texts.proofs.shown.Tie as tie
 
 returns : tie.Need-returns
 returns c = simp (c .before .if1 .taken, eq-eqb _ _ (c .if2 .taken))

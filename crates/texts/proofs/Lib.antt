@@ -1,0 +1,2 @@
+-- The laws of texts, for the crates above.
+pub mod Text

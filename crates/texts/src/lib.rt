@@ -1,0 +1,109 @@
+// Texts: how the texts of an IDENTIFY block are written: the bytes of each word exchanged, zero bytes kept or made spaces. The
+// rules stand in specs/Text.
+ghost use mathlib.Core.Path.{_≡_};
+ghost use mathlib.Core.List.{List, map};
+ghost use Prim.Native.Nat.{_+_, _%_, _<_, _≤_};
+ghost use lib.ListN.{length, getD, take, drop};
+ghost use Rattle.room.specs.Room.{Wrote};
+ghost use Rattle.texts.specs.Text.{turned, spaced, shown as Text·shown};
+
+// A byte of a text, with zero as a space or as it stands.
+pub fn shown(spaced: bool, byte: u8) -> u8
+    ensures { λ r. ⌜ r ≡ Text·shown spaced byte ⌝ }
+{
+    if spaced {
+        if byte == 0 {
+            return 0x20;
+        }
+        return byte;
+    }
+    byte
+}
+
+// Byte i of a turned text: the other byte of its word. A last byte with no partner stays.
+fn turned_at(text: &[u8], i: usize, spaced: bool) -> u8
+    requires { ⌜ i < length (now text) ⌝ }
+    ensures { λ r. ⌜ r ≡ getD (map (Text·shown spaced) (turned (now (text .entry)))) i 0 ⌝ }
+{
+    let j = i + 1 - 2 * (i % 2);
+    if j < text.len() {
+        return shown(spaced, text[j]);
+    }
+    shown(spaced, text[i])
+}
+
+// Writes a text turned, byte by byte, each where there is room for it.
+fn put_each(room: &mut [u8], at: usize, text: &[u8], spaced: bool)
+    ensures { λ _. ⌜ Wrote (now (room .entry)) at (map (Text·shown spaced) (turned (now (text .entry)))) (now (room .exit)) ⌝ }
+{
+    let mut i = 0;
+    while i < text.len() {
+        room::put_byte(room, at, i, turned_at(text, i, spaced));
+        i += 1;
+    }
+}
+
+// Writes four words that fit, each turned. As in `room::store_four`, all are read before the first is written.
+fn store_words(room: &mut [u8], at: usize, text: &[u8], i: usize)
+    requires { ⌜ (at + 8 ≤ length (now room)) × ((i + 8 ≤ length (now text)) × (i % 2 ≡ 0)) ⌝ }
+    ensures { λ _. ⌜ Wrote (now (room .entry)) at (take 8 (drop i (turned (now (text .entry))))) (now (room .exit)) ⌝ }
+{
+    let e = text[i + 5];
+    let f = text[i + 4];
+    let g = text[i + 7];
+    let h = text[i + 6];
+    room::store_four(room, at, text[i + 1], text[i], text[i + 3], text[i + 2]);
+    room::store_four(room, at + 4, e, f, g, h);
+}
+
+// Writes a text that fits turned, its zero bytes kept.
+pub fn store_turned(room: &mut [u8], at: usize, text: &[u8])
+    requires { ⌜ (at + length (now text) ≤ length (now room)) × (length (now text) % 8 ≡ 0) ⌝ }
+    ensures { λ _. ⌜ Wrote (now (room .entry)) at (turned (now (text .entry))) (now (room .exit)) ⌝ }
+{
+    let mut i = 0;
+    while i < text.len() {
+        store_words(room, at + i, text, i);
+        i += 8;
+    }
+}
+
+// Writes a text that fits turned, its zero bytes as spaces.
+pub fn store_spaced(room: &mut [u8], at: usize, text: &[u8])
+    requires { ⌜ (at + length (now text) ≤ length (now room)) × (length (now text) % 4 ≡ 0) ⌝ }
+    ensures { λ _. ⌜ Wrote (now (room .entry)) at (spaced (turned (now (text .entry)))) (now (room .exit)) ⌝ }
+{
+    let mut i = 0;
+    while i < text.len() {
+        let a = shown(true, text[i + 1]);
+        let b = shown(true, text[i]);
+        let c = shown(true, text[i + 3]);
+        let d = shown(true, text[i + 2]);
+        room::store_four(room, at + i, a, b, c, d);
+        i += 4;
+    }
+}
+
+// Writes a text turned, its zero bytes kept. The name's words so go high byte first.
+pub fn put_turned(room: &mut [u8], at: usize, text: &[u8])
+    requires { ⌜ length (now text) % 8 ≡ 0 ⌝ }
+    ensures { λ _. ⌜ Wrote (now (room .entry)) at (turned (now (text .entry))) (now (room .exit)) ⌝ }
+{
+    if room::fits(room.len(), at, text.len()) {
+        store_turned(room, at, text);
+        return;
+    }
+    put_each(room, at, text, false);
+}
+
+// Writes a text turned, its zero bytes as spaces.
+pub fn put_spaced(room: &mut [u8], at: usize, text: &[u8])
+    requires { ⌜ length (now text) % 4 ≡ 0 ⌝ }
+    ensures { λ _. ⌜ Wrote (now (room .entry)) at (spaced (turned (now (text .entry)))) (now (room .exit)) ⌝ }
+{
+    if room::fits(room.len(), at, text.len()) {
+        store_spaced(room, at, text);
+        return;
+    }
+    put_each(room, at, text, true);
+}
