@@ -11,7 +11,7 @@ ghost use Rattle.packet.specs.Packet.{packetDrive, listed as Packet·lis
 pub fn packet_drive(signature: &[u8]) -> bool
     ensures { λ r. ⌜ r ≡ packetDrive (now (signature .entry)) ⌝ }
 {
-    rules::byte(signature, 5) == 0x14 && rules::byte(signature, 6) == 0xEB
+    (rules::byte(signature, 5) == 0x14) & (rules::byte(signature, 6) == 0xEB)
 }
 
 // How many codes the drive's own page 00h says that it lists.
