@@ -1,6 +1,6 @@
 -- Laws that the functions' proofs share.
 use mathlib.Core.Path.{_≡_, refl, sym, _∙_}
-use mathlib.Core.Bool.{Bool, true, false, cond, not}
+use mathlib.Core.Bool.{Bool, true, false, cond, not, _||_}
 use mathlib.Core.List.{List}
 use Prim.Native.Nat.{ℕ, _≤_}
 use native.Mathlib.Nat.{le-trans}
@@ -10,9 +10,12 @@ use lib.ListN.{length}
 use borrow.Author.Tests.{eqb-true, ltb-false, not-false, eq-eqb, ne-eqb}
 use Rattle.sense.specs.Refusal.{Roomy}
 use Rattle.sense.proofs.Sense.{roomy-unless}
-use Rattle.rules.proofs.Checks.{Silent, silent, neither}
-use Rattle.command.specs.Command.{long, size, Whole}
-use Rattle.order.specs.Check.{wrongSize, checksOf, refusalOf}
+use Rattle.rules.specs.Checks.{first}
+use Rattle.rules.proofs.Checks.{Silent, silent, neither, first-of-two}
+use Rattle.command.specs.Command.{long, size, protocol, Whole}
+use Rattle.command.specs.Length.{lengthOf}
+use Rattle.order.specs.Order.{withData, reset, resetOrder, commandOrder, orderOf}
+use Rattle.order.specs.Check.{wrongSize, lengthChecks, commandChecks, refusalOf, earlyRefusal}
 
 -- Checks in order: one that applies answers, and one that does not leaves the answer to those after it.
 pub applies : {b : Bool} (n rest : ℕ) → b ≡ true → n ≡ cond b n rest
@@ -47,11 +50,11 @@ sized registers sense e =
     let both = neither (not (eqb registers 11)) (ltb sense 22) e in
     (eqb-true _ _ (not-false _ (both .0)), ltb-false _ _ (both .1))
 
--- A command that nothing refuses came with all its registers, and is whole.
-module _ (pending : Bool) (command : List ℕ) (registers declared sense : ℕ) (e : refusalOf pending command registers declared sense ≡ 0) where
-  quiet : Silent (checksOf pending command registers declared sense)
-  unfolding refusalOf
-  quiet = silent (checksOf pending command registers declared sense) refl e
+-- A command that no check but those of the length refuses came with all its registers, and is whole.
+module _ (pending : Bool) (command : List ℕ) (registers sense : ℕ) (e : earlyRefusal pending command registers sense ≡ 0) where
+  quiet : Silent (commandChecks pending command registers sense)
+  unfolding earlyRefusal
+  quiet = silent (commandChecks pending command registers sense) refl e
 
   pub taken-sized : (registers ≡ 11) × (22 ≤ sense)
   taken-sized = sized registers sense (quiet .0)
@@ -60,6 +63,46 @@ module _ (pending : Bool) (command : List ℕ) (registers declared sense : ℕ) 
   taken-whole = whole refl (quiet .1 .1 .1 .0)
 
 -- A refusal of a command that writes has room for it.
-pub roomy : (pending : Bool) (command : List ℕ) (registers declared sense : ℕ) {number : ℕ} → number ≡ refusalOf pending command registers declared sense → Roomy number sense
-unfolding refusalOf
-roomy pending command registers declared sense e = roomy-unless (wrongSize registers sense) _ (λ w. sized registers sense w .1) e
+pub roomy : (pending : Bool) (command : List ℕ) (registers sense : ℕ) {number : ℕ} → number ≡ earlyRefusal pending command registers sense → Roomy number sense
+unfolding earlyRefusal
+roomy pending command registers sense e = roomy-unless (wrongSize registers sense) _ (λ w. sized registers sense w .1) e
+
+-- The refusal, by the checks that do not look at the length and those that do.
+module _ (pending : Bool) (command : List ℕ) (registers declared sense : ℕ) where
+  abbrev early : ℕ
+  early = earlyRefusal pending command registers sense
+
+  abbrev late : ℕ
+  late = first (lengthChecks (protocol command) (lengthOf command declared) declared)
+
+  two-runs : refusalOf pending command registers declared sense ≡ cond (eqb early 0) late early
+  unfolding refusalOf earlyRefusal
+  two-runs = first-of-two (commandChecks pending command registers sense) (lengthChecks (protocol command) (lengthOf command declared) declared) refl
+
+  pub refused-early : (early ≡ 0 → ⊥) → refusalOf pending command registers declared sense ≡ early
+  refused-early h = rw (two-runs, ne-eqb _ _ h)
+
+  pub refused-late : early ≡ 0 → refusalOf pending command registers declared sense ≡ late
+  refused-late h = rw (two-runs, eq-eqb _ _ h)
+
+-- Without data no length is refused: of protocol 15, and of a reset, whose order has none.
+no-data : (p bytes declared : ℕ) → withData p ≡ false → first (lengthChecks p bytes declared) ≡ 0
+no-data p bytes declared h = rw h
+
+pub none-for-15 : {p : ℕ} (bytes declared : ℕ) → p ≡ 15 → first (lengthChecks p bytes declared) ≡ 0
+none-for-15 bytes declared e = rw e (no-data 15 bytes declared refl)
+
+reset-without : (p : ℕ) (b : Bool) → eqb p 0 ≡ b → (b || eqb p 1) ≡ true → withData p ≡ false
+reset-without p true e h = rw (eqb-true p 0 e)
+reset-without p false e h = rw (eqb-true p 1 h)
+
+-- The length that an order has is refused as the command's is.
+pub length-of-order : (command : List ℕ) (declared : ℕ) → first (lengthChecks (protocol command) (orderOf command declared .length) declared) ≡ first (lengthChecks (protocol command) (lengthOf command declared) declared)
+unfolding orderOf
+length-of-order command declared = by (reset (protocol command)) refl
+  where
+    by : (b : Bool) → reset (protocol command) ≡ b → first (lengthChecks (protocol command) (cond b (resetOrder command) (commandOrder command declared) .length) declared) ≡ first (lengthChecks (protocol command) (lengthOf command declared) declared)
+    by true e =
+        let w = reset-without (protocol command) (eqb (protocol command) 0) refl e in
+        no-data (protocol command) 0 declared w ∙ sym (no-data (protocol command) (lengthOf command declared) declared w)
+    by false e = refl

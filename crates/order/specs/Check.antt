@@ -55,16 +55,24 @@ lengthChecks p bytes declared =
     ∷ []
 
 -- "Checks run in this order, the first that applies answers: 1; empty command 2; opcode 3; short command 2; then 4 to 16
--- upward, those that concern the command."
-abbrev pub checksOf : Bool → List ℕ → ℕ → ℕ → ℕ → List Check
-checksOf pending command registers declared sense =
+-- upward, those that concern the command." Those that do not look at the length:
+abbrev pub commandChecks : Bool → List ℕ → ℕ → ℕ → List Check
+commandChecks pending command registers sense =
     (wrongSize registers sense ⇒ 1)
     ∷ (eqb (length command) 0 ⇒ 2)
     ∷ (wrongOpcode command ⇒ 3)
     ∷ (ltb (length command) (size command) ⇒ 2)
     ∷ (naca command ⇒ 4)
     ∷ fieldChecks pending (protocol command) (tLength command) (tDir command)
-    ++ lengthChecks (protocol command) (lengthOf command declared) declared
+
+-- and all of them.
+abbrev pub checksOf : Bool → List ℕ → ℕ → ℕ → ℕ → List Check
+checksOf pending command registers declared sense =
+    commandChecks pending command registers sense ++ lengthChecks (protocol command) (lengthOf command declared) declared
 
 unfoldable pub refusalOf : Bool → List ℕ → ℕ → ℕ → ℕ → ℕ
 refusalOf pending command registers declared sense = first (checksOf pending command registers declared sense)
+
+-- The first that applies of those that do not look at the length. For private functions; no rule names it.
+unfoldable pub earlyRefusal : Bool → List ℕ → ℕ → ℕ → ℕ
+earlyRefusal pending command registers sense = first (commandChecks pending command registers sense)

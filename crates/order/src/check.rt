@@ -1,6 +1,5 @@
 // The checks of a pass-through command, in the table's order.
 use crate::read;
-use command::length;
 ghost use mathlib.Core.Path.{_≡_};
 ghost use mathlib.Core.Bool.{not, _&&_};
 ghost use mathlib.Core.List.{[], _∷_};
@@ -8,9 +7,8 @@ ghost use Prim.Native.Nat.{_<_};
 ghost use lib.Dec.{eqb, ltb};
 ghost use lib.ListN.{length};
 ghost use Rattle.command.specs.Command.{Whole, size, protocol, tLength, tDir};
-ghost use Rattle.command.specs.Length.{lengthOf};
 ghost use Rattle.rules.specs.Checks.{_⇒_, first};
-ghost use Rattle.order.specs.Check.{wrongSize, wrongOpcode, wrongProtocol, wrongLength, wrongDirection, fieldChecks, lengthChecks, refusalOf};
+ghost use Rattle.order.specs.Check.{wrongSize, wrongOpcode, wrongProtocol, wrongLength, wrongDirection, fieldChecks, lengthChecks, earlyRefusal};
 
 // 1: a lent piece has not its size.
 pub fn wrong_size(registers: usize, sense: usize) -> bool
@@ -79,7 +77,7 @@ fn field_fault(pending: bool, protocol: u8, t_length: u8, from: bool) -> u8
 }
 
 // 13 and 14: a data protocol with length 0, or with one above the declared length.
-fn length_fault(protocol: u8, bytes: u32, declared: u32) -> u8
+pub fn length_fault(protocol: u8, bytes: u32, declared: u32) -> u8
     ensures { λ r. ⌜ r ≡ first (lengthChecks protocol bytes declared) ⌝ }
 {
     if !read::with_data(protocol) {
@@ -94,9 +92,9 @@ fn length_fault(protocol: u8, bytes: u32, declared: u32) -> u8
     0
 }
 
-// The number of the first check that applies, and 0 where none does.
-pub fn fault(pending: bool, command: &[u8], registers: usize, declared: u32, sense: usize) -> u8
-    ensures { λ r. ⌜ r ≡ refusalOf pending (now (command .entry)) registers declared sense ⌝ }
+// The number of the first check that applies, but for those of the length, and 0 where none does.
+pub fn fault(pending: bool, command: &[u8], registers: usize, sense: usize) -> u8
+    ensures { λ r. ⌜ r ≡ earlyRefusal pending (now (command .entry)) registers sense ⌝ }
 {
     if wrong_size(registers, sense) {
         return 1;
@@ -115,10 +113,5 @@ pub fn fault(pending: bool, command: &[u8], registers: usize, declared: u32, sen
     }
     let protocol = command::protocol(command);
     let t_length = command::t_length(command);
-    let number = field_fault(pending, protocol, t_length, command::t_dir(command));
-    if number != 0 {
-        return number;
-    }
-    let length = length::in_bytes(command, declared);
-    length_fault(protocol, length.0, declared)
+    field_fault(pending, protocol, t_length, command::t_dir(command))
 }

@@ -90,21 +90,20 @@ impl Pending {
         ensures { λ r. ⌜ Submit·outcome r (now (sense .exit)) ≡ Submit·submit self (now (command .entry)) (now (registers .entry)) declared (now (sense .entry)) ⌝ }
     {
         let nothing = order::no_order();
-        let number = check::fault(
-            self.state != 0,
-            command,
-            registers.len(),
-            declared,
-            sense.len(),
-        );
+        let number = check::fault(self.state != 0, command, registers.len(), sense.len());
         if number != 0 {
             return answer(self, number, sense::refuse(sense, number), nothing);
         }
-        if command::protocol(command) == 15 {
+        let protocol = command::protocol(command);
+        if protocol == 15 {
             sense::report(sense, 0x01, 0x00, 0x1D, false, registers);
             return answer(self, 0, sense::CHECK_CONDITION, nothing);
         }
         let order = read::order(command, declared);
+        let late = check::length_fault(protocol, order.length, declared);
+        if late != 0 {
+            return answer(self, late, sense::refuse(sense, late), nothing);
+        }
         answer(Pending { state: 1, order }, 0, sense::NONE, order)
     }
 
