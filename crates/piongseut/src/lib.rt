@@ -48,7 +48,8 @@ pub extern "C" fn piongseut_empty() -> Pending
     Pending::empty()
 }
 
-// Submits a pass-through command, and updates the record that is lent.
+// Submits a pass-through command, and updates the record that is lent. A step that leaves the record's state leaves the record, so
+// that it is not written then; and since it is not, only its state has to be read.
 #[no_mangle]
 pub extern "C" fn piongseut_submit(
     state: &mut Pending,
@@ -61,11 +62,13 @@ pub extern "C" fn piongseut_submit(
 {
     let p = *state;
     let a = p.submit(command, registers, declared, sense);
-    *state = a.next;
+    if a.next.state != p.state {
+        *state = a.next;
+    }
     a.taken
 }
 
-// Ends the order that the record holds, and updates the record that is lent.
+// Ends the order that the record holds, and updates the record that is lent, as `piongseut_submit` does.
 #[no_mangle]
 pub extern "C" fn piongseut_complete(
     state: &mut Pending,
@@ -76,7 +79,9 @@ pub extern "C" fn piongseut_complete(
 {
     let p = *state;
     let a = p.complete(registers, sense);
-    *state = a.next;
+    if a.next.state != p.state {
+        *state = a.next;
+    }
     a.ended
 }
 
