@@ -47,14 +47,20 @@ fn wrong_protocol(protocol: u8) -> bool
 fn wrong_length(protocol: u8, t_length: u8) -> bool
     ensures { λ r. ⌜ r ≡ wrongLength protocol «t_length» ⌝ }
 {
-    (read::without_data(protocol) & (t_length != 0)) | (read::with_data(protocol) & (t_length == 0))
+    if t_length != 0 {
+        return read::without_data(protocol);
+    }
+    read::with_data(protocol)
 }
 
 // 12: T_DIR does not fit the protocol.
 fn wrong_direction(protocol: u8, from: bool) -> bool
     ensures { λ r. ⌜ r ≡ wrongDirection protocol from ⌝ }
 {
-    (read::from_drive(protocol) & !from) | (read::to_drive(protocol) & from)
+    if from {
+        return read::to_drive(protocol);
+    }
+    read::from_drive(protocol)
 }
 
 // 9 to 12, which look at fields of the command alone, and at whether an order is pending.

@@ -42,13 +42,10 @@ fn reset(protocol: u8) -> bool
 fn direction(protocol: u8, from: bool) -> u8
     ensures { λ r. ⌜ r ≡ directionOf protocol from ⌝ }
 {
-    if with_data(protocol) {
-        if from {
-            return 1;
-        }
-        return 2;
+    if !with_data(protocol) {
+        return 0;
     }
-    0
+    2 - rules::flag(from)
 }
 
 fn power(exponent: u8) -> u16
