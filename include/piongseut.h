@@ -7,7 +7,7 @@
  * that is not null. The functions hold no state of their own, allocate nothing, lock nothing and always return, so they may
  * run in an interrupt; the code may use the red zone below the stack pointer, so firmware whose interrupts share the stack of
  * what they interrupt has to skip those 128 bytes. Stack, with the return address and the arguments that go by the stack:
- * piongseut_submit 248 bytes, piongseut_inquiry 200, piongseut_complete 152, piongseut_intake_gather 96, every other function 64
+ * piongseut_inquiry 200 bytes, piongseut_submit 184, piongseut_complete 112, piongseut_intake_gather 96, every other function 64
  * or less (measured: docs/PERFORMANCE.md).
  *
  * Bytes stand in SCSI's order: two-byte lengths high byte first, IDENTIFY words as the drive sends them.
