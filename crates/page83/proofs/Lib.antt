@@ -1,3 +1,2 @@
 -- The laws of page 83h, for the crates above.
 pub mod Laws
-pub mod Zero

@@ -1,3 +1,2 @@
 -- Page 83h, the identification page, as document 01 writes it.
 pub mod Page83
-pub mod Reader

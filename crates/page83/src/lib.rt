@@ -1,8 +1,5 @@
-// Page 83h: the page that names a drive: its writer, for whoever has a block and room, and its reader. The rules stand in
-// specs/: Page83 and Reader.
-mod reader;
-
-pub use reader::read;
+// Page 83h: the page that names a drive, for whoever has a block and room. The rules stand in specs/Page83; the crate `reader` reads
+// the page.
 ghost use mathlib.Core.Path.{_≡_};
 ghost use mathlib.Core.List.{List, _++_};
 ghost use Prim.Native.Nat.{_≤_};
@@ -14,10 +11,10 @@ ghost use Rattle.page83.specs.Page83.{page83, namePage, textPage, outcom
 
 // What a page that names the drive starts with: PAGE CODE, PAGE LENGTH, and the head of its one descriptor (CODE SET binary,
 // DESIGNATOR TYPE NAA, DESIGNATOR LENGTH).
-const NAME_HEAD: [u8; 8] = [0x00, 0x83, 0x00, 0x0C, 0x01, 0x03, 0x00, 0x08];
+pub const NAME_HEAD: [u8; 8] = [0x00, 0x83, 0x00, 0x0C, 0x01, 0x03, 0x00, 0x08];
 
 // What a page that tells texts starts with: the same (CODE SET ASCII, DESIGNATOR TYPE T10 vendor identification), and the vendor.
-const TEXT_HEAD: [u8; 16] = [
+pub const TEXT_HEAD: [u8; 16] = [
     0x00,
     0x83,
     0x00,
@@ -41,14 +38,6 @@ const TEXT_HEAD: [u8; 16] = [
 pub struct Written {
     pub number: u8,
     pub count: usize,
-}
-
-// What the reader gives: 0 or 16, the form (1 the world wide name, 2 model and serial number, 0 refused), and the name's bytes.
-#[repr(C)]
-pub struct Name {
-    pub number: u8,
-    pub form: u8,
-    pub name: [u8; 60],
 }
 
 // The page of a drive that carries a name, in room that holds it.

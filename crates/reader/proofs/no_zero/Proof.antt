@@ -4,10 +4,10 @@ use Prim.Native.Nat.{ℕ, _≤_, _<_, _-_}
 use native.Mathlib.Omega.{arith}
 use lib.ListN.{length, getD}
 use borrow.Author.Count.{below-more}
-use Rattle.page83.proofs.Zero.{all-nonzero, zero-at}
+use Rattle.reader.proofs.Zero.{all-nonzero, zero-at}
 use borrow.Author.Needs.{needs}
-use Rattle.page83.proofs.reader.no_zero.Statement.{statement}
-use Rattle.page83.proofs.reader.no_zero.Tie as tie
+use Rattle.reader.proofs.no_zero.Statement.{statement}
+use Rattle.reader.proofs.no_zero.Tie as tie
 
 abbrev Inv-loop : tie.InvT-loop
 Inv-loop bytes i₀ i = (i ≤ length bytes) × ((k : ℕ) → k < i → getD bytes k 0 ≡ 0 → ⊥)

@@ -1,13 +1,20 @@
-// The reader of page 83h. The rule stands in specs/Reader.
-use crate::NAME_HEAD;
-use crate::Name;
-use crate::TEXT_HEAD;
+// Reader: reads a page 83h, and gives back the name that went in. The rule stands in specs/Reader.
+use page83::NAME_HEAD;
+use page83::TEXT_HEAD;
 ghost use mathlib.Core.Path.{_≡_};
 ghost use mathlib.Core.Bool.{Bool};
 ghost use mathlib.Core.List.{List};
 ghost use Prim.Native.Nat.{_≤_};
 ghost use lib.ListN.{length, drop};
-ghost use Rattle.page83.specs.Reader.{noZero, namesDrive, tellsTexts, inSixty, read as Reader·read};
+ghost use Rattle.reader.specs.Reader.{noZero, namesDrive, tellsTexts, inSixty, read as Reader·read};
+
+// What the reader gives: 0 or 16, the form (1 the world wide name, 2 model and serial number, 0 refused), and the name's bytes.
+#[repr(C)]
+pub struct Name {
+    pub number: u8,
+    pub form: u8,
+    pub name: [u8; 60],
+}
 
 fn no_zero(bytes: &[u8]) -> bool
     ensures { λ r. ⌜ r ≡ noZero (now (bytes .entry)) ⌝ }

@@ -2,11 +2,11 @@
 use mathlib.Core.Path.{_∙_, sym}
 use native.Mathlib.Omega.{arith}
 use lib.Seq.{length-take-le}
-use Rattle.page83.proofs.Zero.{to-the-end}
+use Rattle.reader.proofs.Zero.{to-the-end}
 use borrow.Author.Tests.{eq-eqb, ne-eqb}
 use borrow.Author.Needs.{needs}
-use Rattle.page83.proofs.reader.names_drive.Statement.{statement}
-use Rattle.page83.proofs.reader.names_drive.Tie as tie
+use Rattle.reader.proofs.names_drive.Statement.{statement}
+use Rattle.reader.proofs.names_drive.Tie as tie
 
 returns : tie.Need-returns
 returns c = rw (ne-eqb _ _ (c .if1 .taken))

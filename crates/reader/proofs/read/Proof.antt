@@ -1,10 +1,10 @@
 -- `read`: the form that the tests find, and its bytes.
 use mathlib.Core.Path.{_∙_, sym}
-use Rattle.page83.specs.Reader.{read}
-use Rattle.page83.proofs.Zero.{name-bytes, text-bytes}
+use Rattle.reader.specs.Reader.{read}
+use Rattle.reader.proofs.Zero.{name-bytes, text-bytes}
 use borrow.Author.Needs.{needs}
-use Rattle.page83.proofs.reader.read.Statement.{statement}
-use Rattle.page83.proofs.reader.read.Tie as tie
+use Rattle.reader.proofs.read.Statement.{statement}
+use Rattle.reader.proofs.read.Tie as tie
 
 names-drive-requires : tie.Need-names-drive-requires
 names-drive-requires c κs = search needs

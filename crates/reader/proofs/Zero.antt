@@ -9,7 +9,7 @@ use lib.ListN.{length, getD, take, drop, length-drop}
 use lib.Seq.{take-all}
 use borrow.Author.Tests.{eq-eqb, ne-eqb, eqb-true}
 use Rattle.identify.specs.Drive.{someBit}
-use Rattle.page83.specs.Reader.{noZero, namesDrive, tellsTexts}
+use Rattle.reader.specs.Reader.{noZero, namesDrive, tellsTexts}
 
 -- No byte is zero where none is at any place, and one is where one is at some place.
 pub all-nonzero : (s : List ℕ) → ((k : ℕ) → k < length s → getD s k 0 ≡ 0 → ⊥) → noZero s ≡ true

@@ -6,8 +6,8 @@ use lib.Dec.{eqb}
 use lib.ListN.{length, take, drop, replicate}
 use Rattle.room.specs.Room.{written}
 use Rattle.identify.specs.Drive.{someBit, equal}
-use Rattle.page83.specs.declared.Name.{Name}
+use Rattle.reader.specs.declared.Name.{Name}
 use Rattle.page83.specs.Page83.{namePage, textPage}
 
 -- No byte is zero.
 unfoldable pub noZero : List ℕ → Bool

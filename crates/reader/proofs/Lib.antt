@@ -1,0 +1,2 @@
+-- The laws of what is read, for the crates above.
+pub mod Zero

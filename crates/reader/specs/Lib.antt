@@ -1,0 +1,2 @@
+-- The reader of page 83h, as document 01 has it.
+pub mod Reader
