@@ -17,7 +17,7 @@ use Rattle.pending.specs.declared.Completed.{Completed}
 use Rattle.command.specs.Command.{Whole, long, protocol, tDir, tLength, byteBlock, count, ckCond, extend}
 use Rattle.command.specs.Length.{lengthOf}
 use Rattle.order.specs.Order.{reset, directionOf, noOrder, orderOf}
-use Rattle.order.specs.Check as Check
+use Rattle.checks.specs.Check as Check
 use Rattle.pending.specs.Record.{empty, nothingPending}
 use Rattle.pending.specs.Submit as Submit
 use Rattle.pending.specs.Submit.{submit}

@@ -1,3 +1,2 @@
--- The order that a pass-through command makes, and the checks that refuse one, as document 01 has them.
+-- The order that a pass-through command makes, as document 01 has it.
 pub mod Order
-pub mod Check

@@ -1,6 +1,5 @@
-// Order: the order for the drive that a pass-through command makes, and the checks that refuse one. The rules stand in specs/:
-// Order, and Check (the checks in the table's order).
-pub mod check;
+// Order: the order for the drive that a pass-through command makes. The rules stand in specs/Order; the crate `checks` refuses
+// commands.
 pub mod read;
 
 ghost use mathlib.Core.Path.{_≡_};

@@ -6,8 +6,8 @@ use lib.ListN.{length}
 use Rattle.rules.proofs.Checks.{silent}
 use Rattle.sense.specs.Refusal.{Roomy}
 use Rattle.sense.proofs.Sense.{roomy-unless}
-use Rattle.order.specs.Check.{wrongSize}
-use Rattle.order.proofs.Laws.{sized}
+use Rattle.checks.specs.Check.{wrongSize}
+use Rattle.checks.proofs.Laws.{sized}
 use Rattle.pending.specs.declared.Pending.{Pending}
 use Rattle.pending.specs.Complete.{checksOf, refusalOf}
 

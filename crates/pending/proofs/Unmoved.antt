@@ -9,7 +9,7 @@ use borrow.Author.Tests.{eqb-true}
 use Rattle.rules.proofs.Checks.{silent}
 use Rattle.command.specs.Command.{protocol}
 use Rattle.order.specs.Order.{orderOf}
-use Rattle.order.specs.Check as Check
+use Rattle.checks.specs.Check as Check
 use Rattle.pending.specs.declared.Pending.{Pending}
 use Rattle.pending.specs.declared.Submitted.{Submitted}
 use Rattle.pending.specs.declared.Completed.{Completed}

@@ -10,7 +10,7 @@ use Rattle.room.specs.Room.{written}
 use Rattle.sense.specs.Refusal.{rowOf, refusedSense, good, checkCondition}
 use Rattle.sense.specs.Sense.{senseData, registers as told}
 use Rattle.order.specs.declared.Order.{Order}
-use Rattle.order.specs.Check.{wrongSize}
+use Rattle.checks.specs.Check.{wrongSize}
 use Rattle.pending.specs.declared.Pending.{Pending}
 use Rattle.pending.specs.declared.Completed.{Completed}
 use Rattle.pending.specs.Record.{empty, nothingPending}

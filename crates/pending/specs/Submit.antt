@@ -10,7 +10,7 @@ use Rattle.sense.specs.Sense.{senseData, registers as told}
 use Rattle.order.specs.declared.Order.{Order}
 use Rattle.command.specs.Command.{protocol}
 use Rattle.order.specs.Order.{noOrder, orderOf}
-use Rattle.order.specs.Check as Check
+use Rattle.checks.specs.Check as Check
 use Rattle.pending.specs.declared.Pending.{Pending}
 use Rattle.pending.specs.declared.Submitted.{Submitted}
 use Rattle.pending.specs.Record.{holding, nothingPending}

@@ -1,7 +1,6 @@
 // The end of an order: its checks, its status and what its sense data tell.
 use crate::Pending;
 use order::Order;
-use order::check;
 ghost use mathlib.Core.Path.{_≡_};
 ghost use Prim.Native.Nat.{_≤_};
 ghost use lib.ListN.{length};
@@ -11,7 +10,7 @@ ghost use Rattle.pending.specs.Complete.{refusalOf, failed as Complete·
 pub fn fault(pending: Pending, registers: &[u8], sense: usize) -> u8
     ensures { λ r. ⌜ r ≡ refusalOf pending (now (registers .entry)) sense ⌝ }
 {
-    if check::wrong_size(registers.len(), sense) {
+    if checks::wrong_size(registers.len(), sense) {
         return 1;
     }
     if pending.state == 0 {

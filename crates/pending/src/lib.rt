@@ -3,7 +3,6 @@
 mod finish;
 
 use order::Order;
-use order::check;
 use order::read;
 ghost use mathlib.Core.Path.{_≡_};
 ghost use Rattle.pending.specs.Record.{empty as Record·empty};
@@ -90,7 +89,7 @@ impl Pending {
         ensures { λ r. ⌜ Submit·outcome r (now (sense .exit)) ≡ Submit·submit self (now (command .entry)) (now (registers .entry)) declared (now (sense .entry)) ⌝ }
     {
         let nothing = order::no_order();
-        let number = check::fault(self.state != 0, command, registers.len(), sense.len());
+        let number = checks::fault(self.state != 0, command, registers.len(), sense.len());
         if number != 0 {
             return answer(self, number, sense::refuse(sense, number), nothing);
         }
@@ -100,7 +99,7 @@ impl Pending {
             return answer(self, 0, sense::CHECK_CONDITION, nothing);
         }
         let order = read::order(command, declared);
-        let late = check::length_fault(protocol, order.length, declared);
+        let late = checks::length_fault(protocol, order.length, declared);
         if late != 0 {
             return answer(self, late, sense::refuse(sense, late), nothing);
         }

@@ -10,7 +10,7 @@ use Rattle.request.specs.Request.{page, refusalOf as inquiryRefusal}
 use Rattle.inquiry.specs.Inquiry.{inquiry}
 use Rattle.command.specs.Length.{lengthOf}
 use Rattle.order.specs.Order.{orderOf}
-use Rattle.order.specs.Check.{refusalOf as submitRefusal}
+use Rattle.checks.specs.Check.{refusalOf as submitRefusal}
 use Rattle.pending.specs.Submit.{submit}
 use Rattle.pending.specs.Complete.{complete, refusalOf as completeRefusal}
 use Rattle.piongseut.specs.Soundings.{soundings, all}

@@ -1,6 +1,6 @@
 -- `order`: by whether it is a reset.
+use mathlib.Core.Path.{sym, _∙_}
 use Rattle.order.specs.Order.{orderOf}
-use Rattle.order.proofs.Laws.{found}
 use borrow.Author.Needs.{needs}
 use Rattle.order.proofs.read.order.Statement.{statement}
 use Rattle.order.proofs.read.order.Tie as tie
@@ -16,14 +16,14 @@ reset-order-requires c κs = search needs
 
 returns : tie.Need-returns
 unfolding orderOf
-returns c = rw (found (rw (c .before .before .before .protocol .ensures) at (c .before .before .reset .ensures)) (c .before .if1 .taken)) (c .reset-order .ensures)
+returns c = rw (sym (rw (c .before .before .before .protocol .ensures) at (c .before .before .reset .ensures)) ∙ c .before .if1 .taken) (c .reset-order .ensures)
 
 command-order-requires : tie.Need-command-order-requires
 command-order-requires c κs = search needs
 
 returns-2 : tie.Need-returns-2
 unfolding orderOf
-returns-2 c = rw (found (rw (c .before .before .before .protocol .ensures) at (c .before .before .reset .ensures)) (c .before .if1 .left)) (c .command-order .ensures)
+returns-2 c = rw (sym (rw (c .before .before .before .protocol .ensures) at (c .before .before .reset .ensures)) ∙ c .before .if1 .left) (c .command-order .ensures)
 
 pub order-spec : {M : Type 1} → statement M
 order-spec =

@@ -4,10 +4,10 @@ use mathlib.Core.Bool.{not}
 use Prim.Native.Nat.{ℕ}
 use lib.ListN.{length}
 use borrow.Author.Tests.{eq-eqb, ne-eqb}
-use Rattle.order.specs.Check.{refusalOf, earlyRefusal}
+use Rattle.checks.specs.Check.{refusalOf, earlyRefusal}
 use Rattle.pending.specs.Record.{nothingPending}
 use Rattle.pending.specs.Submit.{submit}
-use Rattle.order.proofs.Laws.{taken-sized, taken-whole, roomy, refused-early, refused-late, none-for-15, length-of-order}
+use Rattle.checks.proofs.Laws.{taken-sized, taken-whole, roomy, refused-early, refused-late, none-for-15, length-of-order}
 use borrow.Author.Needs.{needs}
 use Rattle.pending.proofs.Pending.submit.Statement.{statement}
 use Rattle.pending.proofs.Pending.submit.Tie as tie

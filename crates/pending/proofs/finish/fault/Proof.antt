@@ -1,6 +1,6 @@
 -- `fault`: each check answers where it is the first that applies.
 use Rattle.pending.specs.Complete.{refusalOf}
-use Rattle.order.proofs.Laws.{checks}
+use Rattle.checks.proofs.Laws.{checks}
 use borrow.Author.Needs.{needs}
 use Rattle.pending.proofs.finish.fault.Statement.{statement}
 use Rattle.pending.proofs.finish.fault.Tie as tie

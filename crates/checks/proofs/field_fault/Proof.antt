@@ -1,8 +1,8 @@
 -- `field_fault`: each check answers where it is the first that applies.
-use Rattle.order.proofs.Laws.{checks}
+use Rattle.checks.proofs.Laws.{checks}
 use borrow.Author.Needs.{needs}
-use Rattle.order.proofs.check.field_fault.Statement.{statement}
-use Rattle.order.proofs.check.field_fault.Tie as tie
+use Rattle.checks.proofs.field_fault.Statement.{statement}
+use Rattle.checks.proofs.field_fault.Tie as tie
 
 wrong-protocol-requires : tie.Need-wrong-protocol-requires
 wrong-protocol-requires c κs = search needs

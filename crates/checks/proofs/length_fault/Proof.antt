@@ -1,8 +1,8 @@
 -- `length_fault`: by whether the protocol has data, and by the length.
 use borrow.Author.Tests.{eq-eqb, ne-eqb, lt-ltb, le-ltb, not-true, not-false}
 use borrow.Author.Needs.{needs}
-use Rattle.order.proofs.check.length_fault.Statement.{statement}
-use Rattle.order.proofs.check.length_fault.Tie as tie
+use Rattle.checks.proofs.length_fault.Statement.{statement}
+use Rattle.checks.proofs.length_fault.Tie as tie
 
 with-data-requires : tie.Need-with-data-requires
 with-data-requires c κs = search needs

@@ -1,10 +1,10 @@
 -- `fault`: each check answers where it is the first that applies.
 use borrow.Author.Tests.{ne-eqb}
-use Rattle.order.specs.Check.{earlyRefusal}
-use Rattle.order.proofs.Laws.{checks, found, whole}
+use Rattle.checks.specs.Check.{earlyRefusal}
+use Rattle.checks.proofs.Laws.{checks, found, whole}
 use borrow.Author.Needs.{needs}
-use Rattle.order.proofs.check.fault.Statement.{statement}
-use Rattle.order.proofs.check.fault.Tie as tie
+use Rattle.checks.proofs.fault.Statement.{statement}
+use Rattle.checks.proofs.fault.Tie as tie
 
 wrong-size-requires : tie.Need-wrong-size-requires
 wrong-size-requires c κs = search needs

@@ -1,8 +1,8 @@
 -- `wrong_direction`: by T_DIR.
 use mathlib.Core.Bool.{and-true, and-false, or-false}
 use borrow.Author.Needs.{needs}
-use Rattle.order.proofs.check.wrong_direction.Statement.{statement}
-use Rattle.order.proofs.check.wrong_direction.Tie as tie
+use Rattle.checks.proofs.wrong_direction.Statement.{statement}
+use Rattle.checks.proofs.wrong_direction.Tie as tie
 
 to-drive-requires : tie.Need-to-drive-requires
 to-drive-requires c κs = search needs

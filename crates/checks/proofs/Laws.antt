@@ -14,8 +14,8 @@ use Rattle.rules.specs.Checks.{first}
 use Rattle.rules.proofs.Checks.{Silent, silent, neither, first-of-two}
 use Rattle.command.specs.Command.{long, size, protocol, Whole}
 use Rattle.command.specs.Length.{lengthOf}
 use Rattle.order.specs.Order.{withData, reset, resetOrder, commandOrder, orderOf}
-use Rattle.order.specs.Check.{wrongSize, lengthChecks, commandChecks, refusalOf, earlyRefusal}
+use Rattle.checks.specs.Check.{wrongSize, lengthChecks, commandChecks, refusalOf, earlyRefusal}
 
 -- Checks in order: one that applies answers, and one that does not leaves the answer to those after it.
 pub applies : {b : Bool} (n rest : ℕ) → b ≡ true → n ≡ cond b n rest

@@ -1,7 +1,7 @@
 -- `short`: the size by the form.
 use borrow.Author.Needs.{needs}
-use Rattle.order.proofs.check.short.Statement.{statement}
-use Rattle.order.proofs.check.short.Tie as tie
+use Rattle.checks.proofs.short.Statement.{statement}
+use Rattle.checks.proofs.short.Tie as tie
 
 long-requires : tie.Need-long-requires
 long-requires c κs = search needs

@@ -1,5 +1,5 @@
-// The checks of a pass-through command, in the table's order.
-use crate::read;
+// Checks: the checks of a pass-through command, in the table's order. The rules stand in specs/Check.
+use order::read;
 ghost use mathlib.Core.Path.{_≡_};
 ghost use mathlib.Core.Bool.{not, _&&_};
 ghost use mathlib.Core.List.{[], _∷_};
@@ -8,7 +8,7 @@ ghost use lib.Dec.{eqb, ltb};
 ghost use lib.ListN.{length};
 ghost use Rattle.command.specs.Command.{Whole, size, protocol, tLength, tDir};
 ghost use Rattle.rules.specs.Checks.{_⇒_, first};
-ghost use Rattle.order.specs.Check.{wrongSize, wrongOpcode, wrongProtocol, wrongLength, wrongDirection, fieldChecks, lengthChecks, earlyRefusal};
+ghost use Rattle.checks.specs.Check.{wrongSize, wrongOpcode, wrongProtocol, wrongLength, wrongDirection, fieldChecks, lengthChecks, earlyRefusal};
 
 // 1: a lent piece has not its size.
 pub fn wrong_size(registers: usize, sense: usize) -> bool

@@ -2,8 +2,8 @@
 use mathlib.Core.Bool.{and-true, and-false, or-false}
 use borrow.Author.Tests.{eq-eqb, ne-eqb}
 use borrow.Author.Needs.{needs}
-use Rattle.order.proofs.check.wrong_length.Statement.{statement}
-use Rattle.order.proofs.check.wrong_length.Tie as tie
+use Rattle.checks.proofs.wrong_length.Statement.{statement}
+use Rattle.checks.proofs.wrong_length.Tie as tie
 
 without-data-requires : tie.Need-without-data-requires
 without-data-requires c κs = search needs

@@ -1,2 +1,0 @@
--- The laws of pass-through orders.
-pub mod Laws
