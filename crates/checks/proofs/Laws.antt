@@ -1,4 +1,4 @@
--- Laws that the functions' proofs share.
+-- Laws of the checks: one by one, in two runs, and what holds of a command that they let pass.
 use mathlib.Core.Path.{_≡_, refl, sym, _∙_}
 use mathlib.Core.Bool.{Bool, true, false, cond, not, _||_}
 use mathlib.Core.List.{List}
@@ -10,8 +10,8 @@ use lib.ListN.{length}
 use borrow.Author.Tests.{eqb-true, ltb-false, not-false, eq-eqb, ne-eqb}
 use Rattle.sense.specs.Refusal.{Roomy}
 use Rattle.sense.proofs.Sense.{roomy-unless}
-use Rattle.rules.specs.Checks.{first}
-use Rattle.rules.proofs.Checks.{Silent, silent, neither, first-of-two}
+use Rattle.rules.specs.Checks.{Check, first}
+use Rattle.rules.proofs.Checks.{Silent, silent, neither, first-answers, second-answers}
 use Rattle.command.specs.Command.{long, size, protocol, Whole}
 use Rattle.command.specs.Length.{lengthOf}
 use Rattle.order.specs.Order.{withData, reset, resetOrder, commandOrder, orderOf}
@@ -69,21 +69,19 @@ roomy pending command registers sense e = roomy-unless (wrongSize registers sens
 
 -- The refusal, by the checks that do not look at the length and those that do.
 module _ (pending : Bool) (command : List ℕ) (registers declared sense : ℕ) where
-  abbrev early : ℕ
-  early = earlyRefusal pending command registers sense
+  abbrev early : List Check
+  early = commandChecks pending command registers sense
 
-  abbrev late : ℕ
-  late = first (lengthChecks (protocol command) (lengthOf command declared) declared)
+  abbrev late : List Check
+  late = lengthChecks (protocol command) (lengthOf command declared) declared
 
-  two-runs : refusalOf pending command registers declared sense ≡ cond (eqb early 0) late early
+  pub refused-early : (earlyRefusal pending command registers sense ≡ 0 → ⊥) → refusalOf pending command registers declared sense ≡ earlyRefusal pending command registers sense
   unfolding refusalOf earlyRefusal
-  two-runs = first-of-two (commandChecks pending command registers sense) (lengthChecks (protocol command) (lengthOf command declared) declared) refl
+  refused-early = first-answers early late refl
 
-  pub refused-early : (early ≡ 0 → ⊥) → refusalOf pending command registers declared sense ≡ early
-  refused-early h = rw (two-runs, ne-eqb _ _ h)
-
-  pub refused-late : early ≡ 0 → refusalOf pending command registers declared sense ≡ late
-  refused-late h = rw (two-runs, eq-eqb _ _ h)
+  pub refused-late : earlyRefusal pending command registers sense ≡ 0 → refusalOf pending command registers declared sense ≡ first late
+  unfolding refusalOf earlyRefusal
+  refused-late = second-answers early late refl
 
 -- Without data no length is refused: of protocol 15, and of a reset, whose order has none.
 no-data : (p bytes declared : ℕ) → withData p ≡ false → first (lengthChecks p bytes declared) ≡ 0

@@ -7,7 +7,7 @@ use lib.ListN.{length, length-take, length-drop}
 use Rattle.identify.specs.Block.{words, serial, model, name}
 
 -- A field that the block holds whole has two bytes a word.
-pub length-words : (first last : ℕ) (block : List ℕ) → 2 * (last + 1) ≤ length block → length (words first last block) ≡ 2 * (last + 1 - first)
+length-words : (first last : ℕ) (block : List ℕ) → 2 * (last + 1) ≤ length block → length (words first last block) ≡ 2 * (last + 1 - first)
 length-words first last block h = simp (length-take, length-drop) (omega arith)
 
 -- The fields of a whole block.
@@ -20,7 +20,3 @@ module _ (block : List ℕ) (h : length block ≡ 512) where
 
   pub length-name : length (name block) ≡ 8
   length-name = length-words 108 111 block (omega arith)
-
--- No field has more than two bytes a word.
-pub words-at-most : (first last : ℕ) (block : List ℕ) → length (words first last block) ≤ 2 * (last + 1 - first)
-words-at-most first last block = simp length-take (omega arith)

@@ -6,7 +6,7 @@ use Prim.Native.Nat.{ℕ, _≤_}
 use lib.Dec.{eqb, ltb}
 use lib.ListN.{length, take, drop}
 use borrow.Author.Tests.{eq-eqb, ne-eqb, eqb-true, ltb-false, not-false}
-use Rattle.rules.proofs.Checks.{silent, neither, first-of-two}
+use Rattle.rules.proofs.Checks.{silent, neither, first-answers, second-answers}
 use Rattle.sense.specs.Refusal.{Roomy}
 use Rattle.sense.proofs.Sense.{roomy-unless}
 use Rattle.pages.specs.Page.{page00}
@@ -53,15 +53,13 @@ roomy q sense e =
 
 -- The refusal, by the checks that do not look at the room and the one that does.
 module _ (q : Request) (room sense : ℕ) where
-  two-runs : refusalOf q room sense ≡ cond (eqb (earlyRefusal q sense) 0) (cond (not (passesThrough (isPacket q) (q .command)) && ltb room (toWrite q)) 8 0) (earlyRefusal q sense)
-  unfolding refusalOf earlyRefusal
-  two-runs = first-of-two (take 8 (checks q room sense)) (drop 8 (checks q room sense)) refl
-
   pub refused-early : (earlyRefusal q sense ≡ 0 → ⊥) → refusalOf q room sense ≡ earlyRefusal q sense
-  refused-early h = rw (two-runs, ne-eqb _ _ h)
+  unfolding refusalOf earlyRefusal
+  refused-early = first-answers (take 8 (checks q room sense)) (drop 8 (checks q room sense)) refl
 
   pub refused-late : earlyRefusal q sense ≡ 0 → refusalOf q room sense ≡ cond (not (passesThrough (isPacket q) (q .command)) && ltb room (toWrite q)) 8 0
-  refused-late h = rw (two-runs, eq-eqb _ _ h)
+  unfolding refusalOf earlyRefusal
+  refused-late = second-answers (take 8 (checks q room sense)) (drop 8 (checks q room sense)) refl
 
 -- A page that is made of the block has a whole one: there is one or none, and check 6 did not find none.
 module _ (code : ℕ) where

@@ -1,5 +1,5 @@
--- What a write leaves in lent room. No writer asks for room: it stores what fits, and nothing else changes.
--- So a reply that is cut is the writer's work in a shorter room, and no writer knows of the cut.
+-- What a write leaves in lent room. It is said for room of every length: what fits is stored, and nothing else changes.
+-- So a reply that is cut is the page's writing in a shorter room, and the rule of a page does not know of the cut.
 use mathlib.Core.Path.{_≡_}
 use mathlib.Core.List.{List}
 use Prim.Native.Nat.{ℕ, _-_, min}

@@ -1,5 +1,5 @@
-// Room: writing into room that a caller lends. A writer stores what fits and leaves the rest of the room as it was, so
-// that no writer asks for room, and a cut reply is the same writer in a shorter room.
+// Room: writing into room that a caller lends. What is called `put` stores what fits and leaves the rest of the room as it was, so
+// that it asks for no room, and a cut reply is the same writer in a shorter room. What is called `store` is for room that is there.
 ghost use mathlib.Core.Path.{_≡_};
 ghost use mathlib.Core.List.{List, [], _∷_};
 ghost use Prim.Native.Nat.{_+_, _%_, _≤_};
@@ -8,7 +8,7 @@ ghost use lib.ListN.{length};
 ghost use Rattle.room.specs.Room.{Wrote, fitting};
 
 // How many of n bytes fit into a room of this length from a place on.
-pub fn fit(room: usize, at: usize, n: usize) -> usize
+fn fit(room: usize, at: usize, n: usize) -> usize
     ensures { λ r. ⌜ r ≡ fitting room at n ⌝ }
 {
     if room <= at {

@@ -35,7 +35,7 @@ neither true b e = absurd (true≢false e)
 neither false b e = (refl, e)
 
 -- Checks in two runs: where the first run gives none, the second answers.
-pub first-of-two : (a b : List Check) → numbered a ≡ true → first (a ++ b) ≡ cond (eqb (first a) 0) (first b) (first a)
+first-of-two : (a b : List Check) → numbered a ≡ true → first (a ++ b) ≡ cond (eqb (first a) 0) (first b) (first a)
 first-of-two [] b n = refl
 first-of-two (check ∷ a) b n =
     let both = and-eq-true-iff (not (eqb (check .number) 0)) (numbered a) .0 n in
@@ -45,8 +45,9 @@ first-of-two (check ∷ a) b n =
     step true k h r = rw (not-true (eqb k 0) h)
     step false k h r = r
 
-pub in-first : (a b : List Check) → numbered a ≡ true → {r : ℕ} → r ≡ first a → (r ≡ 0 → ⊥) → r ≡ first (a ++ b)
-in-first a b n {r} e h = e ∙ sym (rw (first-of-two a b n, ne-eqb (first a) 0 (λ z. h (e ∙ z))))
+module _ (a b : List Check) (n : numbered a ≡ true) where
+  pub first-answers : (first a ≡ 0 → ⊥) → first (a ++ b) ≡ first a
+  first-answers h = rw (first-of-two a b n, ne-eqb (first a) 0 h)
 
-pub in-second : (a b : List Check) → numbered a ≡ true → {r s : ℕ} → r ≡ first a → r ≡ 0 → s ≡ first b → s ≡ first (a ++ b)
-in-second a b n {r} {s} e z f = f ∙ sym (rw (first-of-two a b n, eq-eqb (first a) 0 (sym e ∙ z)))
+  pub second-answers : first a ≡ 0 → first (a ++ b) ≡ first b
+  second-answers h = rw (first-of-two a b n, eq-eqb (first a) 0 h)

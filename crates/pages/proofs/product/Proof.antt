@@ -1,9 +1,8 @@
 -- `product`: the front of the model.
-use mathlib.Core.Path.{_≡_, sym}
+use mathlib.Core.Path.{sym}
 use native.Mathlib.Omega.{arith}
-use lib.ListN.{length}
 use lib.Seq.{length-take-le}
-use Rattle.identify.proofs.Block.{length-words}
+use Rattle.identify.proofs.Block.{length-model}
 use borrow.Author.Needs.{needs}
 use Rattle.pages.proofs.product.Statement.{statement}
 use Rattle.pages.proofs.product.Tie as tie
@@ -14,7 +13,7 @@ model-requires c κs = search needs
 slice-aggregate-result : tie.Need-slice-aggregate-result
 slice-aggregate-result c =
     let a = c .before .before .before in
-    sym (length-take-le 16 (c .before .model .result .now) (rw (c .before .model .ensures, length-words 27 46 (a .args .block .now) (omega (arith, a .pre))) (omega arith)))
+    sym (length-take-le 16 (c .before .model .result .now) (rw (c .before .model .ensures, length-model (a .args .block .now) (a .pre)) (omega arith)))
 
 returns : tie.Need-returns
 returns c = rw (c .before .model .ensures)
