@@ -10,8 +10,10 @@ use lib.ListN.{length, take, drop, length-take}
 use lib.Seq.{drop-at, length-take-le}
 use borrow.Author.Tests.{ne-eqb}
 use Rattle.sense.specs.Refusal.{rowOf, refusedSense}
-use Rattle.request.specs.Command.{allocation}
-use Rattle.request.specs.Request.{Request, passesThrough, isPacket, refusalOf, toWrite, page}
+use Rattle.inquiry_fields.specs.Fields.{allocation}
+use Rattle.inquiry_checks.specs.Request.{Request, passesThrough, isPacket}
+use Rattle.inquiry_checks.specs.Checks.{refusalOf}
+use Rattle.inquiry_checks.specs.Asked.{toWrite, page}
 use Rattle.inquiry.specs.Inquiry.{Outcome, refused, passed, served, inquiry}
 
 -- "no reply passes the allocation length" (demand 1)

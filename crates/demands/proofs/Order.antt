@@ -10,20 +10,21 @@ use lib.Seq.{getD-set-same, getD-set-other}
 use borrow.Author.Tests.{eqb-true, eqb-false, eq-eqb, ne-eqb, le-ltb}
 use Rattle.rules.specs.Bits.{flag}
 use Rattle.sense.specs.Refusal.{refusedSense}
-use Rattle.order.specs.declared.Order.{Order}
-use Rattle.pending.specs.declared.Pending.{Pending}
-use Rattle.pending.specs.declared.Submitted.{Submitted}
-use Rattle.pending.specs.declared.Completed.{Completed}
-use Rattle.command.specs.Command.{Whole, long, protocol, tDir, tLength, byteBlock, count, ckCond, extend}
-use Rattle.command.specs.Length.{lengthOf}
-use Rattle.order.specs.Order.{reset, directionOf, noOrder, orderOf}
-use Rattle.checks.specs.Check as Check
-use Rattle.pending.specs.Record.{empty, nothingPending}
-use Rattle.pending.specs.Submit as Submit
-use Rattle.pending.specs.Submit.{submit}
-use Rattle.pending.specs.Complete as Complete
-use Rattle.pending.specs.Complete.{complete, endStatus, endSense, isSet}
-use Rattle.command.proofs.Laws.{either}
+use Rattle.passthrough_order.specs.declared.Order.{Order}
+use Rattle.passthrough.specs.declared.Pending.{Pending}
+use Rattle.passthrough.specs.declared.Submitted.{Submitted}
+use Rattle.passthrough.specs.declared.Completed.{Completed}
+use Rattle.passthrough_fields.specs.Fields.{long, protocol, tDir, tLength, byteBlock, countNumber, ckCond, extend}
+use Rattle.passthrough_fields.specs.Helpers.{Whole}
+use Rattle.passthrough_fields.specs.Length.{lengthOf}
+use Rattle.passthrough_order.specs.Order.{reset, directionOf, noOrder, orderOf}
+use Rattle.passthrough_checks.specs.Checks as Check
+use Rattle.passthrough.specs.Record.{empty, nothingPending}
+use Rattle.passthrough.specs.Submit as Submit
+use Rattle.passthrough.specs.Submit.{submit}
+use Rattle.passthrough.specs.Complete as Complete
+use Rattle.passthrough.specs.Complete.{complete, endStatus, endSense, isSet}
+use Rattle.passthrough_fields.proofs.Laws.{either}
 
 -- What decides the direction: a reset has none.
 direction-is : (c : List ℕ) (declared : ℕ) → orderOf c declared .direction ≡ cond (reset (protocol c)) 0 (directionOf (protocol c) (tDir c))
@@ -89,7 +90,7 @@ own-flags c declared r = rw r (flag-is-set (ckCond c), flag-is-set (extend c))
 
 -- EXTEND, count FFFFh, blocks: the longest length that a field can ask for. That no such product is too long for 32 bits is
 -- the law `product`.
-pub longest : (c : List ℕ) (declared : ℕ) → tLength c ≡ 2 → byteBlock c ≡ true → count c ≡ 0xFFFF → lengthOf c declared ≡ 33553920
+pub longest : (c : List ℕ) (declared : ℕ) → tLength c ≡ 2 → byteBlock c ≡ true → countNumber c ≡ 0xFFFF → lengthOf c declared ≡ 33553920
 unfolding lengthOf
 longest c declared t b n = rw (t, b, n)
 

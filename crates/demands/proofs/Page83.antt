@@ -17,9 +17,9 @@ use Rattle.identify.specs.Drive.{someBit, carriesName, equal, sameDrive}
 use Rattle.identify.proofs.Block.{length-name}
 use Rattle.texts.proofs.Text.{turned-twice, turned-injective, turned-map, length-turned}
 use Rattle.identify.proofs.Drive.{equal-same, OneName, OneText, same-drive-means, same-drive-when}
-use Rattle.reader.specs.declared.Name.{Name}
+use Rattle.page83_reader.specs.declared.Name.{Name}
 use Rattle.page83.specs.Page83.{page83, namePage, textPage, Outcome, write}
-use Rattle.reader.specs.Reader.{noZero, namesDrive, tellsTexts, inSixty, read}
+use Rattle.page83_reader.specs.Reader.{noZero, namesDrive, tellsTexts, inSixty, read}
 use Rattle.page83.proofs.Laws.{named-page, unnamed-page, length-model-text, length-serial-text}
 
 -- Turning makes no bit and loses none.

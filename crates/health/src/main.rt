@@ -4,7 +4,7 @@
 // non-data, and the drive waits for nothing.
 use libc::STDERR_FILENO;
 use libc::STDOUT_FILENO;
-use pending::Pending;
+use passthrough::Pending;
 ghost use Prim.Native.Nat.{_+_, _*_, _≤_};
 ghost use mathlib.Core.Path.{_≡_};
 ghost use lib.ListN.{length};

@@ -1,4 +1,4 @@
--- Which drive a block speaks of: whether it carries a name, and when two blocks are the same drive.
+-- Which drive a block speaks of: whether it carries a name, and when two blocks are the same drive (RULES 5).
 use mathlib.Core.Bool.{Bool, true, false, not, _&&_, _||_}
 use mathlib.Core.List.{List, [], _∷_}
 use Prim.Native.Nat.{ℕ}
@@ -11,7 +11,7 @@ unfoldable pub someBit : List ℕ → Bool
 someBit [] = false
 someBit (byte ∷ bytes) = not (eqb byte 0) || someBit bytes
 
--- "any bit of words 108-111 is one": the block carries a nonzero world wide name.
+-- A block carries a name where some bit of its name words is one.
 unfoldable pub carriesName : List ℕ → Bool
 carriesName block = someBit (name block)
 
@@ -22,8 +22,8 @@ equal [] (b ∷ t) = false
 equal (a ∷ s) [] = false
 equal (a ∷ s) (b ∷ t) = eqb a b && equal s t
 
--- "both carry a nonzero world wide name and it is the same one, or both carry none and have equal model and serial fields
--- with zero bytes read as spaces" (demand 3)
+-- The same drive: two names, and they are equal; or no name on either side, and model and serial number are equal with their
+-- zero bytes as spaces.
 unfoldable pub sameDrive : List ℕ → List ℕ → Bool
 sameDrive a b =
     carriesName a && carriesName b && equal (name a) (name b)

@@ -1,3 +1,3 @@
--- The IDENTIFY block, as document 01 reads it.
+-- The IDENTIFY block, and which drive it speaks of.
 pub mod Block
 pub mod Drive

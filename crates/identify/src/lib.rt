@@ -4,7 +4,8 @@ ghost use mathlib.Core.Path.{_≡_};
 ghost use mathlib.Core.Bool.{_&&_};
 ghost use mathlib.Core.List.{List, map};
 ghost use lib.ListN.{length};
-ghost use Rattle.texts.specs.Text.{spaced, shown};
+ghost use Rattle.texts.specs.Text.{spaced};
+ghost use Rattle.texts.specs.Helpers.{shown};
 ghost use Rattle.identify.specs.Block.{word as Block·word, serial as Block·serial, model as Block·model, name as Block·name};
 ghost use Rattle.identify.specs.Drive.{someBit, carriesName, equal, sameDrive};
 

@@ -1,12 +1,14 @@
--- The INQUIRY entry: what comes of what is asked.
+-- The INQUIRY entry: what comes of what is asked (RULES 4).
 use mathlib.Core.Bool.{cond}
 use mathlib.Core.List.{List, _++_}
 use Prim.Native.Nat.{ℕ, min}
 use lib.Dec.{eqb}
 use lib.ListN.{length, take, drop}
 use Rattle.sense.specs.Refusal.{rowOf, refusedSense, good}
-use Rattle.request.specs.Command.{allocation}
-use Rattle.request.specs.Request.{Request, isPacket, passesThrough, page, toWrite, refusalOf}
+use Rattle.inquiry_fields.specs.Fields.{allocation}
+use Rattle.inquiry_checks.specs.Request.{Request, isPacket, passesThrough}
+use Rattle.inquiry_checks.specs.Asked.{page, toWrite}
+use Rattle.inquiry_checks.specs.Checks.{refusalOf}
 use Rattle.inquiry.specs.declared.Answer.{Answer}
 
 -- Everything that comes back, and every lent byte that can change.
@@ -18,17 +20,17 @@ pub record Outcome : Type 0 where
 abbrev pub outcome : Answer → List ℕ → List ℕ → Outcome
 outcome answer room sense = record { answer = answer; room = room; sense = sense }
 
--- "A refusal returns an empty part of the output room", the row's status and sense bytes, and changes nothing else.
+-- A refusal shows an empty part of the room, has its row's status and sense bytes, and changes nothing else.
 abbrev pub refused : ℕ → List ℕ → List ℕ → Outcome
 refused number room sense =
     outcome (record { number = number; status = rowOf number .status; shown = 1; count = 0 }) room (refusedSense number sense)
 
--- "shows the first n bytes of the drive's reply, n the lesser of its size and the allocation length"
+-- A packet drive's own reply is shown, as much of it as the allocation length allows; the room stays as it was.
 abbrev pub passed : Request → List ℕ → List ℕ → Outcome
 passed q room sense =
     outcome (record { number = 0; status = good; shown = 0; count = min (length (q .reply)) (allocation (q .command)) }) room sense
 
--- "The reply is the first n bytes of the full page [..] Output past n is untouched."
+-- The page's first n bytes stand in the room, its length field as in the whole page, and the room past n is as it was.
 abbrev pub served : Request → List ℕ → List ℕ → Outcome
 served q room sense =
     outcome (record { number = 0; status = good; shown = 1; count = toWrite q })
@@ -41,6 +43,6 @@ inquiry q room sense =
     (cond (passesThrough (isPacket q) (q .command)) (passed q room sense) (served q room sense))
     (refused (refusalOf q (length room) (length sense)) room sense)
 
--- "So the answer shows either a part of the drive's reply or a part of the output room, and says which"
+-- The part that an answer shows: 0 of the drive's reply, any other number of the room.
 abbrev pub part : List ℕ → List ℕ → ℕ → ℕ → List ℕ
 part reply room shown count = cond (eqb shown 0) (take count reply) (take count room)

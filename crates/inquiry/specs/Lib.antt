@@ -1,2 +1,2 @@
--- The INQUIRY entry, as document 01 has it.
+-- The INQUIRY entry.
 pub mod Inquiry

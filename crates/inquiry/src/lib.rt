@@ -1,10 +1,13 @@
-// Inquiry: the entry that answers INQUIRY. The rule stands in specs/Inquiry.
+// Inquiry: the entry that answers INQUIRY, and the part that an answer shows. The rule stands in specs/Inquiry.
 ghost use mathlib.Core.Path.{_≡_};
 ghost use mathlib.Core.List.{List};
 ghost use lib.ListN.{length};
 ghost use Rattle.room.specs.Room.{Wrote};
-ghost use Rattle.sense.specs.Refusal.{rowOf, refusedSense, Roomy};
-ghost use Rattle.request.specs.Request.{Servable, request, page as Inquiry·page};
+ghost use Rattle.sense.specs.Refusal.{rowOf, refusedSense};
+ghost use Rattle.sense.specs.Helpers.{Roomy};
+ghost use Rattle.inquiry_checks.specs.Request.{request};
+ghost use Rattle.inquiry_checks.specs.Helpers.{Servable};
+ghost use Rattle.inquiry_checks.specs.Asked.{page as Inquiry·page};
 ghost use Rattle.inquiry.specs.Inquiry.{outcome, inquiry as Inquiry·inquiry, part as Inquiry·part};
 
 // What comes back: the refusal's number or 0, the status, which slice is shown (0 the drive's reply, 1 the room), and how many
@@ -30,7 +33,7 @@ fn put_page(
     ensures { λ _. ⌜ Wrote (now (room .entry)) 0 (Inquiry·page (request (now (command .entry)) (now (block .entry)) (now (signature .entry)) (now (texts .entry)) (now (reply .entry)))) (now (room .exit)) ⌝ }
 {
     let packet = packet::packet_drive(signature);
-    if request::standard_asked(packet, command) {
+    if inquiry_checks::standard_asked(packet, command) {
         pages::put_standard(room, block);
         return;
     }
@@ -80,13 +83,13 @@ pub fn inquiry(
 ) -> Answer
     ensures { λ r. ⌜ outcome r (now (room .exit)) (now (sense .exit)) ≡ Inquiry·inquiry (request (now (command .entry)) (now (block .entry)) (now (signature .entry)) (now (texts .entry)) (now (reply .entry))) (now (room .entry)) (now (sense .entry)) ⌝ }
 {
-    let number = request::fault(command, block, signature, texts, reply, sense.len());
+    let number = inquiry_checks::fault(command, block, signature, texts, reply, sense.len());
     if number != 0 {
         return refuse(sense, number);
     }
     let packet = packet::packet_drive(signature);
-    let allocation = request::allocation(command);
-    if request::passes_through(packet, command) {
+    let allocation = inquiry_fields::allocation(command);
+    if inquiry_checks::passes_through(packet, command) {
         return Answer {
             number: 0,
             status: sense::GOOD,
@@ -94,7 +97,8 @@ pub fn inquiry(
             count: rules::lesser(reply.len(), allocation),
         };
     }
-    let n = rules::lesser(request::size(packet, command, block, reply), allocation);
+    let size = inquiry_checks::size(packet, command, block, reply);
+    let n = rules::lesser(size, allocation);
     if room.len() < n {
         return refuse(sense, 8);
     }

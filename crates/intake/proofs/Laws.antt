@@ -9,7 +9,7 @@ use lib.Dec.{eqb, ltb}
 use lib.ListN.{length, getD, take, drop, drop-of-length-le}
 use lib.Seq.{drop-cons, take-all}
 use borrow.Author.Tests.{eqb-true, ltb-false, not-false}
-use Rattle.rules.proofs.Checks.{neither}
+use Rattle.rules.proofs.First.{neither}
 use Rattle.intake.specs.Intake.{wrongIntake, sumOf, complete, blockOf, offer, offered}
 
 -- An intake that is not refused has a store of 512 bytes, and claims no more.

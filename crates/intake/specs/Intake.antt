@@ -1,4 +1,4 @@
--- "IDENTIFY data off the wire": an intake, and what a run does to it.
+-- An intake of IDENTIFY data off the wire, and what a run of bytes does to it (RULES 12).
 use mathlib.Core.Bool.{Bool, cond, _||_, not}
 use mathlib.Core.List.{List, [], _∷_}
 use Prim.Native.Nat.{ℕ, _+_, _-_, _%_}
@@ -16,23 +16,23 @@ intake have sum = record { have = have; sum = sum }
 abbrev pub empty : Intake
 empty = intake 0 0
 
--- "An intake that claims more than 512 bytes gets refusal 1", and so does a store that is not of 512.
+-- 1: a store that is not of 512 bytes, or an intake that claims more than 512.
 abbrev pub wrongIntake : ℕ → ℕ → Bool
 wrongIntake have store = not (eqb store 512) || ltb 512 have
 
--- "a running sum"
+-- The sum of the bytes.
 unfoldable pub sumOf : List ℕ → ℕ
 sumOf [] = 0
 sumOf (byte ∷ bytes) = byte + sumOf bytes
 
--- The bytes of a run that it uses: as many as it lacks, so that "after that it uses nothing".
+-- The bytes of a run that it uses: as many as it lacks, and so none once it is complete.
 abbrev pub usedBy : ℕ → List ℕ → List ℕ
 usedBy have run = take (512 - have) run
 
 abbrev pub after : Intake → List ℕ → Intake
 after held bytes = intake (held .have + length bytes) ((held .sum + sumOf bytes) % 256)
 
--- "reports complete at byte 512"
+-- Complete: it has 512 bytes.
 abbrev pub complete : ℕ → Bool
 complete have = eqb have 512
 
@@ -56,7 +56,7 @@ unfoldable pub taken : Intake → List ℕ → List ℕ → Outcome
 taken held store run =
     cond (wrongIntake (held .have) (length store)) (outcome (answer held 0 1 0) store) (used held store (usedBy (held .have) run))
 
--- "Until complete it gives 0 bytes as its block"
+-- Its block: the store once it is complete, no bytes before.
 abbrev pub blockOf : ℕ → List ℕ → List ℕ
 blockOf have store = cond (complete have) store []
 

@@ -1,2 +1,2 @@
--- The intake, as request L6 has it.
+-- The intake of IDENTIFY data off the wire.
 pub mod Intake

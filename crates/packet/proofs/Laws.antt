@@ -10,7 +10,8 @@ use lib.Dec.{eqb, ltb}
 use lib.ListN.{length, getD, take, drop, length-take, List·getD-eq-default}
 use lib.Seq.{drop-nil}
 use borrow.Author.Tests.{lt-ltb, le-ltb, ltb-true, eq-eqb, ne-eqb, eqb-true}
-use Rattle.packet.specs.Packet.{listed, rising, has89, with89, below89, unusable}
+use Rattle.packet.specs.Packet.{listed, rising, has89, with89, unusable}
+use Rattle.packet.specs.Helpers.{below89}
 
 -- A list rises strictly where each neighbour is above the one before, and does not where one pair is out of order.
 pub rises : (s : List ℕ) → ((k : ℕ) → suc k < length s → getD s k 0 < getD s (suc k) 0) → rising s ≡ true

@@ -1,2 +1,3 @@
--- Packet drives, as document 01 answers for them.
+-- Packet drives.
 pub mod Packet
+pub mod Helpers

@@ -1,11 +1,11 @@
--- Packet drives: which drive is one, and its page 00h made from the drive's own.
+-- Packet drives: which drive is one, and its page 00h made from the drive's own (RULES 7).
 use mathlib.Core.Bool.{Bool, true, false, cond, _&&_, _||_, not}
 use mathlib.Core.List.{List, [], _∷_}
-use Prim.Native.Nat.{ℕ, suc, _-_}
+use Prim.Native.Nat.{ℕ, _-_}
 use lib.Dec.{eqb, ltb}
 use lib.ListN.{length, getD, take, drop}
 
--- "A drive is a packet drive exactly when signature bytes 5 and 6 are 14h and EBh."
+-- A packet drive is told by bytes 5 and 6 of its signature: 14h and EBh.
 abbrev pub packetDrive : List ℕ → Bool
 packetDrive signature = eqb (getD signature 5 0) 0x14 && eqb (getD signature 6 0) 0xEB
 
@@ -13,7 +13,7 @@ packetDrive signature = eqb (getD signature 5 0) 0x14 && eqb (getD signature 6 0
 abbrev pub listed : List ℕ → List ℕ
 listed reply = take (getD reply 3 0) (drop 4 reply)
 
--- "strictly rising"
+-- Every code is above the one before it.
 unfoldable pub rising : List ℕ → Bool
 rising [] = true
 rising (a ∷ []) = true
@@ -23,18 +23,13 @@ unfoldable pub has89 : List ℕ → Bool
 has89 [] = false
 has89 (code ∷ codes) = eqb code 0x89 || has89 codes
 
--- "89h put into the list in ascending order, not twice"
+-- The list with 89h at its place among the others, once.
 unfoldable pub with89 : List ℕ → List ℕ
 with89 [] = 0x89 ∷ []
 with89 (code ∷ codes) = cond (ltb code 0x89) (code ∷ with89 codes) (cond (eqb code 0x89) (code ∷ codes) (0x89 ∷ code ∷ codes))
 
--- How many codes stand before the place of 89h. For private functions; no rule names it.
-unfoldable pub below89 : List ℕ → ℕ
-below89 [] = 0
-below89 (code ∷ codes) = cond (ltb code 0x89) (suc (below89 codes)) 0
-
--- "Unusable: under 4 bytes, byte 1 not 00h, byte 3 above the bytes that follow, list not strictly rising, or 255 codes without
--- 89h."
+-- The drive's own page cannot be used where it is shorter than four bytes, where byte 1 is not 00h, where byte 3 counts more codes
+-- than there are bytes behind it, where the list does not rise, or where it is full and lacks 89h.
 unfoldable pub unusable : List ℕ → Bool
 unusable reply =
     ltb (length reply) 4
@@ -43,7 +38,7 @@ unusable reply =
     || not (rising (listed reply))
     || eqb (length (listed reply)) 255 && not (has89 (listed reply))
 
--- "Page 00h is built from the drive's: bytes 0 and 2 kept [..] Bytes after the list are dropped."
+-- The page: bytes 0 and 2 of the drive's own, byte 1 zero, byte 3 the new count; nothing of what stood behind the list.
 unfoldable pub page00 : List ℕ → List ℕ
 page00 reply =
     getD reply 0 0 ∷ 0x00 ∷ getD reply 2 0 ∷ length (with89 (listed reply)) ∷ with89 (listed reply)

@@ -5,7 +5,8 @@ ghost use mathlib.Core.List.{List, _∷_, _++_};
 ghost use Prim.Native.Nat.{_+_, _<_, _≤_};
 ghost use lib.ListN.{length, getD, take, drop};
 ghost use Rattle.room.specs.Room.{Wrote};
-ghost use Rattle.packet.specs.Packet.{packetDrive, listed as Packet·listed, rising as Packet·rising, with89, below89, unusable as Packet·unusable, page00};
+ghost use Rattle.packet.specs.Packet.{packetDrive, listed as Packet·listed, rising as Packet·rising, with89, unusable as Packet·unusable, page00};
+ghost use Rattle.packet.specs.Helpers.{below89};
 
 // Whether a signature is a packet drive's.
 pub fn packet_drive(signature: &[u8]) -> bool

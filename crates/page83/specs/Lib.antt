@@ -1,2 +1,2 @@
--- Page 83h, the identification page, as document 01 writes it.
+-- Page 83h, the page that names the drive.
 pub mod Page83

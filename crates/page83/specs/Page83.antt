@@ -1,40 +1,39 @@
--- Page 83h: the page that names the drive.
+-- Page 83h: the page that names the drive (RULES 6.4).
 use mathlib.Core.Bool.{cond, not}
 use mathlib.Core.List.{List, [], _∷_, _++_}
 use Prim.Native.Nat.{ℕ}
 use lib.Dec.{eqb, ltb}
 use lib.ListN.{length}
-use Rattle.rules.specs.Checks.{_⇒_, first}
+use Rattle.rules.specs.First.{_when_, first}
 use Rattle.room.specs.Room.{written}
 use Rattle.identify.specs.Block.{serial, model, name}
 use Rattle.texts.specs.Text.{turned, spaced}
 use Rattle.identify.specs.Drive.{carriesName}
 use Rattle.page83.specs.declared.Written.{Written}
 
--- "ATA" and five spaces
+-- The vendor field: ATA and five spaces.
 abbrev pub ata : List ℕ
 ata = 0x41 ∷ 0x54 ∷ 0x41 ∷ 0x20 ∷ 0x20 ∷ 0x20 ∷ 0x20 ∷ 0x20 ∷ []
 
--- "`01 03 00 08`, then each word high byte first; length 12"
+-- A name: page length 12, a descriptor `01 03 00 08` and the eight bytes of the name.
 abbrev pub namePage : List ℕ → List ℕ
 namePage bytes = 0x00 ∷ 0x83 ∷ 0x00 ∷ 0x0C ∷ 0x01 ∷ 0x03 ∷ 0x00 ∷ 0x08 ∷ bytes
 
--- "`02 01 00 44`, "ATA" and five spaces, turned model (40), turned serial (20), zero bytes as spaces in both; length 72"
+-- Texts: page length 72, a descriptor `02 01 00 44`, the vendor, the model (40 bytes) and the serial number (20).
 abbrev pub textPage : List ℕ → List ℕ → List ℕ
 textPage model serial = 0x00 ∷ 0x83 ∷ 0x00 ∷ 0x48 ∷ 0x02 ∷ 0x01 ∷ 0x00 ∷ 0x44 ∷ ata ++ model ++ serial
 
--- "**83h**: `00 83`, two length bytes, one descriptor. If any bit of words 108-111 is one: [..] Else: [..]"
+-- The page of a block: its name, each word high byte first, where it carries one; else its texts, turned and spaced.
 unfoldable pub page83 : List ℕ → List ℕ
 page83 block =
     cond (carriesName block) (namePage (turned (name block)))
     (textPage (spaced (turned (model block))) (spaced (turned (serial block))))
 
--- The writer, for whoever has a block and room: 1 where the block is not 512 bytes, 8 where "output room is shorter than the
--- bytes to write".
+-- The writer, for whoever has a block and room: 1 where the block is not 512 bytes, 8 where the room is shorter than the page.
 unfoldable pub refusalOf : List ℕ → ℕ → ℕ
 refusalOf block room = first
-    ((not (eqb (length block) 512) ⇒ 1)
-    ∷ (ltb room (length (page83 block)) ⇒ 8)
+    ((1 when not (eqb (length block) 512))
+    ∷ (8 when ltb room (length (page83 block)))
     ∷ [])
 
 -- Everything that comes back, and every lent byte that can change.

@@ -1,2 +1,3 @@
--- The pages of INQUIRY other than 83h, as document 01 writes them.
+-- The pages of INQUIRY other than 83h.
 pub mod Page
+pub mod Helpers

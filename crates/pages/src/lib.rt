@@ -8,7 +8,8 @@ ghost use lib.ListN.{length, take, replicate};
 ghost use Rattle.room.specs.Room.{Wrote};
 ghost use Rattle.rules.specs.Bits.{bit};
 ghost use Rattle.identify.specs.Block.{word, model};
-ghost use Rattle.pages.specs.Page.{standard, page00, page80, page89, typeByte, commandCode, blockOrZeros, WholeOrNone};
+ghost use Rattle.pages.specs.Page.{standard, page00, page80, page89, typeByte, commandCode, blockOrZeros};
+ghost use Rattle.pages.specs.Helpers.{WholeOrNone};
 
 // RMB, the removable medium bit of standard data.
 fn removable(block: &[u8]) -> u8

@@ -5,14 +5,14 @@ use Prim.Native.Nat.{ℕ}
 use lib.Dec.{eqb}
 use lib.ListN.{length, drop, replicate}
 use Rattle.identify.specs.Drive.{equal}
-use Rattle.sense.specs.Refusal.{rowOf, refusedSense, good, checkCondition, none}
-use Rattle.request.specs.Request.{request}
+use Rattle.sense.specs.Refusal.{rowOf, refusedSense, good, checkCondition, noStatus}
+use Rattle.inquiry_checks.specs.Request.{request}
 use Rattle.inquiry.specs.Inquiry.{inquiry, Outcome}
-use Rattle.order.specs.declared.Order.{Order}
-use Rattle.order.specs.Order.{noOrder}
-use Rattle.pending.specs.Record.{empty}
-use Rattle.pending.specs.Submit.{submit, Outcome as Submission}
-use Rattle.pending.specs.Complete.{complete, Outcome as Completion}
+use Rattle.passthrough_order.specs.declared.Order.{Order}
+use Rattle.passthrough_order.specs.Order.{noOrder}
+use Rattle.passthrough.specs.Record.{empty}
+use Rattle.passthrough.specs.Submit.{submit, Outcome as Submission}
+use Rattle.passthrough.specs.Complete.{complete, Outcome as Completion}
 
 -- "block 0 above, signature all zero": zero but for bytes 216-223, `00 50 00 C5 34 12 78 56`
 abbrev pub block0 : List ℕ
@@ -56,7 +56,7 @@ fields o =
 abbrev pub takes : ℕ → ℕ → Submission → Bool
 takes direction bytes o =
     eqb (o .submitted .taken .number) 0
-    && eqb (o .submitted .taken .status) none
+    && eqb (o .submitted .taken .status) noStatus
     && eqb (o .submitted .taken .order .direction) direction
     && eqb (o .submitted .taken .order .length) bytes
     && eqb (o .submitted .next .state) 1
@@ -123,6 +123,6 @@ soundings =
     ∷ refuses 2 (send [] 0)
     ∷ []
 
-abbrev pub all : List Bool → Bool
-all [] = true
-all (b ∷ bs) = b && all bs
+abbrev pub allTrue : List Bool → Bool
+allTrue [] = true
+allTrue (b ∷ bs) = b && allTrue bs

@@ -5,21 +5,21 @@ use intake::Intake;
 use intake::Offered;
 use intake::Took;
 use page83::Written;
-use pending::Ended;
-use pending::Pending;
-use pending::Taken;
-use reader::Name;
+use page83_reader::Name;
+use passthrough::Ended;
+use passthrough::Pending;
+use passthrough::Taken;
 use received::Gathered;
 use roll::Counted;
 ghost use mathlib.Core.Path.{_≡_};
 ghost use mathlib.Core.List.{List};
-ghost use Rattle.request.specs.Request.{request};
+ghost use Rattle.inquiry_checks.specs.Request.{request};
 ghost use Rattle.inquiry.specs.Inquiry.{outcome as inquiryOutcome, inquiry as inquiryRule};
-ghost use Rattle.pending.specs.Record.{empty};
-ghost use Rattle.pending.specs.Submit.{outcome as submitOutcome, submit as submitRule};
-ghost use Rattle.pending.specs.Complete.{outcome as completeOutcome, complete as completeRule};
+ghost use Rattle.passthrough.specs.Record.{empty};
+ghost use Rattle.passthrough.specs.Submit.{outcome as submitOutcome, submit as submitRule};
+ghost use Rattle.passthrough.specs.Complete.{outcome as completeOutcome, complete as completeRule};
 ghost use Rattle.page83.specs.Page83.{outcome as writtenOutcome, write as writeRule};
-ghost use Rattle.reader.specs.Reader.{read as readRule};
+ghost use Rattle.page83_reader.specs.Reader.{read as readRule};
 ghost use Rattle.roll.specs.Roll.{outcome as rollOutcome, roll as rollRule};
 ghost use Rattle.intake.specs.Intake.{empty as emptyIntake, outcome as takenOutcome, taken as takenRule, offered};
 ghost use Rattle.received.specs.Received.{gatherOutcome, gatherOf};
@@ -98,7 +98,7 @@ pub extern "C" fn piongseut_write_page83(block: &[u8], room: &mut [u8]) -> Writt
 pub extern "C" fn piongseut_read_page83(page: &[u8]) -> Name
     ensures { λ r. ⌜ r ≡ readRule (now (page .entry)) ⌝ }
 {
-    reader::read(page)
+    page83_reader::read(page)
 }
 
 // The roll of a run of blocks.

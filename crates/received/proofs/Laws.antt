@@ -8,12 +8,13 @@ use lib.Dec.{eqb, ltb}
 use lib.ListN.{length, getD, take, drop, length-take, length-drop, length-append, drop-of-length-le}
 use lib.Seq.{drop-cons, drop-drop, take-all, take-append-seam}
 use borrow.Author.Tests.{eqb-true, lt-ltb, le-ltb, ltb-true, ltb-false, not-false}
-use Rattle.rules.proofs.Checks.{neither}
+use Rattle.rules.proofs.First.{neither}
 use Rattle.room.specs.Room.{written, Wrote}
 use Rattle.room.proofs.Laws.{written-append, written-front, length-written}
 use Rattle.intake.specs.Intake.{complete, blockOf}
 use Rattle.roll.specs.Roll as Roll
-use Rattle.received.specs.Received.{claimsTooMuch, completeIn, gathered, wrongRun, gatherRefusal, gatherOutcome, given, gatherOf, refusalOf, Outcome, outcome, rolled, rollOf}
+use Rattle.received.specs.Received.{claimsTooMuch, gathered, wrongRun, gatherRefusal, gatherOutcome, given, gatherOf, refusalOf, Outcome, outcome, rolled, rollOf}
+use Rattle.received.specs.Helpers.{completeIn}
 
 -- Each complete intake gives 512 bytes.
 pub length-gathered : (haves stores : List ℕ) → length stores ≡ 512 * length haves → length (gathered haves stores) ≡ 512 * completeIn haves

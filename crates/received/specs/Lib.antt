@@ -1,2 +1,3 @@
 -- What is done with intakes.
 pub mod Received
+pub mod Helpers

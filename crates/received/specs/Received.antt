@@ -1,13 +1,13 @@
--- "Page 89h and the roll work from its block."
+-- What is done with intakes: INQUIRY and the roll, from their blocks (RULES 12).
 use mathlib.Core.Bool.{Bool, false, cond, _||_, not}
 use mathlib.Core.List.{List, [], _∷_, _++_}
 use Prim.Native.Nat.{ℕ, zero, suc, _+_, _*_}
 use lib.Dec.{eqb, ltb}
 use lib.ListN.{length, take, drop}
-use Rattle.rules.specs.Checks.{_⇒_, first}
+use Rattle.rules.specs.First.{_when_, first}
 use Rattle.room.specs.Room.{written}
 use Rattle.intake.specs.Intake.{wrongIntake, complete, blockOf}
-use Rattle.request.specs.Request.{request}
+use Rattle.inquiry_checks.specs.Request.{request}
 use Rattle.inquiry.specs.Inquiry.{refused, inquiry}
 use Rattle.inquiry.specs.Inquiry as Inquiry
 use Rattle.roll.specs.declared.Counted.{Counted}
@@ -21,14 +21,10 @@ inquiryOf have store command signature texts reply room sense =
     cond (wrongIntake have (length store)) (refused 1 room sense)
     (inquiry (request command (blockOf have store) signature texts reply) room sense)
 
--- "An intake that claims more than 512 bytes gets refusal 1."
+-- Some intake claims more than 512 bytes.
 unfoldable pub claimsTooMuch : List ℕ → Bool
 claimsTooMuch [] = false
 claimsTooMuch (have ∷ haves) = ltb 512 have || claimsTooMuch haves
-
-unfoldable pub completeIn : List ℕ → ℕ
-completeIn [] = 0
-completeIn (have ∷ haves) = cond (complete have) 1 0 + completeIn haves
 
 -- The blocks of a run of intakes, whose stores stand one after the other.
 unfoldable pub gathered : List ℕ → List ℕ → List ℕ
@@ -39,11 +35,11 @@ gathered (have ∷ haves) stores = blockOf have (take 512 stores) ++ gathered ha
 abbrev pub wrongRun : List ℕ → ℕ → Bool
 wrongRun haves stores = not (eqb stores (512 * length haves)) || claimsTooMuch haves
 
--- Gathering them: 8 where "output room is shorter than the bytes to write".
+-- Gathering them: 8 where the room is shorter than their bytes.
 unfoldable pub gatherRefusal : List ℕ → List ℕ → ℕ → ℕ
 gatherRefusal haves stores room = first
-    ((wrongRun haves (length stores) ⇒ 1)
-    ∷ (ltb room (length (gathered haves stores)) ⇒ 8)
+    ((1 when wrongRun haves (length stores))
+    ∷ (8 when ltb room (length (gathered haves stores)))
     ∷ [])
 
 pub record GatherOutcome : Type 0 where
@@ -65,9 +61,9 @@ gatherOf haves stores room =
 -- The roll of a run: 1 where the intakes or the roll of their blocks would be refused, 8 where room is short of the blocks.
 unfoldable pub refusalOf : List ℕ → List ℕ → ℕ → ℕ → ℕ
 refusalOf haves stores room rows = first
-    ((wrongRun haves (length stores) ⇒ 1)
-    ∷ (not (eqb (Roll.refusalOf (gathered haves stores) rows) 0) ⇒ 1)
-    ∷ (ltb room (length (gathered haves stores)) ⇒ 8)
+    ((1 when wrongRun haves (length stores))
+    ∷ (1 when not (eqb (Roll.refusalOf (gathered haves stores) rows) 0))
+    ∷ (8 when ltb room (length (gathered haves stores)))
     ∷ [])
 
 -- Everything that comes back, and everything lent that can change.

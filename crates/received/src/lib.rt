@@ -11,7 +11,8 @@ ghost use lib.ListN.{length};
 ghost use Rattle.room.specs.Room.{Wrote};
 ghost use Rattle.intake.specs.Intake.{complete};
 ghost use Rattle.inquiry.specs.Inquiry.{outcome as inquiryOutcome};
-ghost use Rattle.received.specs.Received.{inquiryOf, claimsTooMuch, completeIn, gathered, wrongRun, given, gatherOutcome, gatherOf, outcome, rollOf};
+ghost use Rattle.received.specs.Received.{inquiryOf, claimsTooMuch, gathered, wrongRun, given, gatherOutcome, gatherOf, outcome, rollOf};
+ghost use Rattle.received.specs.Helpers.{completeIn};
 
 // Answers an INQUIRY command from an intake's block.
 pub fn inquiry(

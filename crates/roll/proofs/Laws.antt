@@ -14,7 +14,8 @@ use Rattle.room.proofs.Laws.{written-front, written-append}
 use borrow.Author.Tests.{lt-ltb, le-ltb}
 use Rattle.identify.specs.Drive.{sameDrive}
 use Rattle.identify.proofs.Drive.{same-drive-self, same-drive-turned-round, same-drive-through}
-use Rattle.roll.specs.Roll.{blocksIn, blockAt, known, met, drivesFrom, drives, rowIn, rows, Found, Rolled, nextRow}
+use Rattle.roll.specs.Roll.{blocksIn, blockAt, known, met, drivesFrom, drives, rowIn, rows}
+use Rattle.roll.specs.Helpers.{Found, Rolled, nextRow}
 
 -- Two tests that imply each other are one.
 alike : (a b : Bool) → (a ≡ true → b ≡ true) → (b ≡ true → a ≡ true) → a ≡ b

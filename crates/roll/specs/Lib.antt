@@ -1,2 +1,3 @@
--- The roll of drives, as demand 3 puts it.
+-- The roll of drives.
 pub mod Roll
+pub mod Helpers

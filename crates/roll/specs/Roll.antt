@@ -1,17 +1,15 @@
--- The roll: which drive each block of a run is.
-use mathlib.Core.Path.{_≡_}
+-- The roll: which drive each block of a run is (RULES 11).
 use mathlib.Core.Bool.{Bool, true, false, cond, _||_, not}
 use mathlib.Core.List.{List, [], _∷_, _++_, map}
-use Prim.Native.Nat.{ℕ, zero, suc, _+_, _*_, _/_, _%_, _≤_, _<_}
+use Prim.Native.Nat.{ℕ, zero, suc, _*_, _/_, _%_}
 use lib.Dec.{eqb, ltb}
-use lib.ListN.{length, getD, take, drop}
-use Rattle.rules.specs.Checks.{_⇒_, first}
+use lib.ListN.{length, take, drop}
+use Rattle.rules.specs.First.{_when_, first}
 use Rattle.room.specs.Room.{written}
 use Rattle.identify.specs.Drive.{sameDrive}
 use Rattle.roll.specs.declared.Counted.{Counted}
-use Rattle.roll.specs.declared.Row.{Row}
 
--- "Up to 64 blocks in one buffer": the first `count` blocks of 512 bytes, one after the other.
+-- The first `count` blocks of 512 bytes, which stand one after the other in one buffer; and all of them.
 unfoldable pub blocksIn : ℕ → List ℕ → List (List ℕ)
 blocksIn zero bytes = []
 blocksIn (suc count) bytes = take 512 bytes ∷ blocksIn count (drop 512 bytes)
@@ -19,12 +17,16 @@ blocksIn (suc count) bytes = take 512 bytes ∷ blocksIn count (drop 512 bytes)
 abbrev pub blocks : List ℕ → List (List ℕ)
 blocks bytes = blocksIn (length bytes / 512) bytes
 
+-- Block i of them.
+abbrev pub blockAt : List ℕ → ℕ → List ℕ
+blockAt bytes i = take 512 (drop (512 * i) bytes)
+
 -- A drive that a list of blocks has already.
 unfoldable pub known : List ℕ → List (List ℕ) → Bool
 known block [] = false
 known block (drive ∷ drives) = sameDrive drive block || known block drives
 
--- "by first appearance": a drive's first block stands for it
+-- A drive's first block stands for it.
 abbrev pub met : List (List ℕ) → List ℕ → List (List ℕ)
 met seen block = cond (known block seen) seen (seen ++ (block ∷ []))
 
@@ -36,7 +38,7 @@ drivesFrom seen (block ∷ rest) = drivesFrom (met seen block) rest
 abbrev pub drives : List (List ℕ) → List (List ℕ)
 drives run = drivesFrom [] run
 
--- "Rows run from 1": the place of a block's drive among them.
+-- A block's row: the place of its drive among them, from 1.
 unfoldable pub rowIn : List (List ℕ) → List ℕ → ℕ
 rowIn [] block = 1
 rowIn (drive ∷ rest) block = cond (sameDrive drive block) 1 (suc (rowIn rest block))
@@ -44,30 +46,12 @@ rowIn (drive ∷ rest) block = cond (sameDrive drive block) 1 (suc (rowIn rest b
 abbrev pub rows : List (List ℕ) → List ℕ
 rows run = map (rowIn (drives run)) run
 
--- Block i of a run, and the first block of the same drive. For functions below the entry; no rule names them.
-abbrev pub blockAt : List ℕ → ℕ → List ℕ
-blockAt bytes i = take 512 (drop (512 * i) bytes)
-
-pub record Found (bytes : List ℕ) (i r : ℕ) : Type 0 where
-  pub within : r ≤ i
-  pub same : r < i → sameDrive (blockAt bytes r) (blockAt bytes i) ≡ true
-  pub other : (k : ℕ) → k < r → sameDrive (blockAt bytes k) (blockAt bytes i) ≡ false
-
-abbrev pub nextRow : List ℕ → ℕ → ℕ → ℕ → Row
-nextRow room j i count =
-    cond (ltb j i) (record { row = getD room j 0; drives = count }) (record { row = count + 1; drives = count + 1 })
-
--- The rows of the first i blocks, and how many drives they are.
-pub record Rolled (bytes : List ℕ) (i : ℕ) (before after : List ℕ) (count : ℕ) : Type 0 where
-  pub room : after ≡ written before 0 (rows (blocksIn i bytes))
-  pub drives : count ≡ length (drives (blocksIn i bytes))
-
--- 1: "roll input not a multiple of 512 or above 32,768 bytes; roll's row room below the block count"
+-- 1: bytes that are no whole number of blocks, more than 64 blocks, or fewer entries of room than blocks.
 unfoldable pub refusalOf : List ℕ → ℕ → ℕ
 refusalOf bytes room = first
-    ((not (eqb (length bytes % 512) 0) ⇒ 1)
-    ∷ (ltb 32768 (length bytes) ⇒ 1)
-    ∷ (ltb room (length bytes / 512) ⇒ 1)
+    ((1 when not (eqb (length bytes % 512) 0))
+    ∷ (1 when ltb 32768 (length bytes))
+    ∷ (1 when ltb room (length bytes / 512))
     ∷ [])
 
 -- Everything that comes back, and every lent entry that can change.
@@ -78,8 +62,8 @@ pub record Outcome : Type 0 where
 abbrev pub outcome : Counted → List ℕ → Outcome
 outcome counted room = record { counted = counted; room = room }
 
--- "entries past the block count stay"; "the drive count is the number of different drives"; "zero for each [..] count" of a
--- refusal
+-- Each block's row in its entry, later entries as they were; how many blocks, and how many different drives. A refusal changes no
+-- entry and counts nothing.
 unfoldable pub roll : List ℕ → List ℕ → Outcome
 roll bytes room =
     cond (eqb (refusalOf bytes (length room)) 0)

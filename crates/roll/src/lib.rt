@@ -4,7 +4,8 @@ ghost use mathlib.Core.Path.{_≡_};
 ghost use mathlib.Core.List.{List};
 ghost use Prim.Native.Nat.{ℕ, _+_, _*_, _≤_, _<_};
 ghost use lib.ListN.{length, getD, take, drop};
-ghost use Rattle.roll.specs.Roll.{Found, Rolled, nextRow, outcome, roll as Roll·roll};
+ghost use Rattle.roll.specs.Roll.{outcome, roll as Roll·roll};
+ghost use Rattle.roll.specs.Helpers.{Found, Rolled, nextRow};
 
 // What comes back: the refusal's number or 0, how many blocks there are, and how many drives.
 #[repr(C)]

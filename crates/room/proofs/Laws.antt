@@ -8,7 +8,8 @@ use native.Mathlib.Numerals.{add-one}
 use native.Mathlib.Omega.{arith}
 use lib.ListN.{length, getD, set, take, drop, drop-of-length-le}
 use lib.Seq.{set-out, drop-cons, drop-nil, length-sets, length-take-le}
-use Rattle.room.specs.Room.{written, Wrote, fitting}
+use Rattle.room.specs.Room.{written, Wrote}
+use Rattle.room.specs.Helpers.{fitting}
 
 -- A write keeps the room's length.
 pub length-written : (r : List ℕ) (at : ℕ) (s : List ℕ) → length (written r at s) ≡ length r

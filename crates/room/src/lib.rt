@@ -5,7 +5,8 @@ ghost use mathlib.Core.List.{List, [], _∷_};
 ghost use Prim.Native.Nat.{_+_, _%_, _≤_};
 ghost use lib.Dec.{leb};
 ghost use lib.ListN.{length};
-ghost use Rattle.room.specs.Room.{Wrote, fitting};
+ghost use Rattle.room.specs.Room.{Wrote};
+ghost use Rattle.room.specs.Helpers.{fitting};
 
 // How many of n bytes fit into a room of this length from a place on.
 fn fit(room: usize, at: usize, n: usize) -> usize

@@ -1,2 +1,2 @@
 -- The laws of checks in order, for the crates above.
-pub mod Checks
+pub mod First

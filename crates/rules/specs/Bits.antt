@@ -1,4 +1,4 @@
--- Bits of a byte or a word, numbered as SCSI and ATA number them: bit 0 is the lowest.
+-- Bits of a byte or a word, numbered as SCSI and ATA number them: bit 0 is the lowest (RULES 1).
 use mathlib.Core.Bool.{Bool, cond}
 use Prim.Native.Nat.{ℕ, _+_, _-_, _/_, _%_, _^_}
 use lib.Dec.{eqb}

@@ -1,3 +1,3 @@
 -- The words that rules are written with.
 pub mod Bits
-pub mod Checks
+pub mod First

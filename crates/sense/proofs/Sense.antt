@@ -4,7 +4,8 @@ use mathlib.Core.Bool.{Bool, true, false, cond}
 use mathlib.Core.List.{List}
 use Prim.Native.Nat.{ℕ, _≤_}
 use lib.ListN.{length}
-use Rattle.sense.specs.Refusal.{rowOf, Roomy}
+use Rattle.sense.specs.Refusal.{rowOf}
+use Rattle.sense.specs.Helpers.{Roomy}
 use Rattle.sense.specs.Sense.{senseData, nothing, registers}
 
 -- "exactly 8 sense bytes"

@@ -10,7 +10,7 @@ use lib.Dec.{eqb}
 use lib.ListN.{length, getD, List·getD-map, List·getD-eq-default}
 use borrow.Author.Tests.{eqb-true, eq-eqb, ne-eqb}
 use Rattle.room.specs.Room.{written}
-use Rattle.sense.specs.Refusal.{table, noRow, rowOf, threeBytes, codes, refusedSense, none, busy, checkCondition}
+use Rattle.sense.specs.Refusal.{table, noRow, rowOf, threeBytes, codes, refusedSense, noStatus, busy, checkCondition}
 use Rattle.sense.specs.Sense.{senseData, nothing}
 
 -- Inside a list the default does not matter.
@@ -42,7 +42,7 @@ at f (suc n) e k h =
 
 -- The status goes with the key: CHECK CONDITION where there is one; else BUSY for number 10, and none.
 abbrev statusBy : ℕ → ℕ → ℕ
-statusBy n key = cond (eqb key 0) (cond (eqb n 10) busy none) checkCondition
+statusBy n key = cond (eqb key 0) (cond (eqb n 10) busy noStatus) checkCondition
 
 pub status-is : (n : ℕ) → rowOf n .status ≡ statusBy n (rowOf n .key)
 unfolding rowOf all-below
@@ -65,5 +65,5 @@ module _ (n : ℕ) where
   unfolding refusedSense
   writes-nothing room h = rw (eq-eqb (rowOf n .key) 0 h)
 
-  pub busy-or-none : rowOf n .key ≡ 0 → rowOf n .status ≡ cond (eqb n 10) busy none
+  pub busy-or-none : rowOf n .key ≡ 0 → rowOf n .status ≡ cond (eqb n 10) busy noStatus
   busy-or-none h = rw (status-is n, eq-eqb (rowOf n .key) 0 h)

@@ -1,3 +1,4 @@
--- Refusals and sense data, as document 01 writes them.
+-- Refusals and sense data.
 pub mod Refusal
 pub mod Sense
+pub mod Helpers

@@ -1,14 +1,13 @@
--- The table of refusals: what each number answers.
-use mathlib.Core.Path.{_≡_}
+-- The table of refusals: what each number answers (RULES 3).
 use mathlib.Core.Bool.{cond}
 use mathlib.Core.List.{List, [], _∷_, map}
-use Prim.Native.Nat.{ℕ, _≤_}
+use Prim.Native.Nat.{ℕ}
 use lib.Dec.{eqb}
 use lib.ListN.{getD}
 use Rattle.room.specs.Room.{written}
 use Rattle.sense.specs.Sense.{nothing, senseData}
 
--- "Status: GOOD 00h, CHECK CONDITION 02h, BUSY 08h." Where 01 says none, the number is one that SCSI does not use.
+-- The status numbers (RULES 2). FFh, which SCSI gives to no status, says that there is none.
 abbrev pub good : ℕ
 good = 0x00
 
@@ -18,8 +17,8 @@ checkCondition = 0x02
 abbrev pub busy : ℕ
 busy = 0x08
 
-abbrev pub none : ℕ
-none = 0xFF
+abbrev pub noStatus : ℕ
+noStatus = 0xFF
 
 -- A row of the table; key 00 stands for no key.
 pub record Row : Type 0 where
@@ -31,12 +30,12 @@ pub record Row : Type 0 where
 abbrev pub row : ℕ → ℕ → ℕ → ℕ → Row
 row status key asc ascq = record { status = status; key = key; asc = asc; ascq = ascq }
 
--- "one row for each number": 0 to 16. Number 0 is no refusal, and answers nothing here.
+-- A row for each number from 0 to 16. Number 0 is no refusal, and answers nothing here.
 abbrev pub table : List Row
 table =
-    row none 0x00 0x00 0x00
+    row noStatus 0x00 0x00 0x00
     -- 1: a lent piece breaks the sizes
-    ∷ row none 0x00 0x00 0x00
+    ∷ row noStatus 0x00 0x00 0x00
     -- 2: no command bytes, or fewer than the command's size
     ∷ row checkCondition 0x05 0x24 0x00
     -- 3: the opcode is not one that this entry serves
@@ -50,7 +49,7 @@ table =
     -- 7: a packet drive's own page 00h is unusable
     ∷ row checkCondition 0x0B 0x00 0x00
     -- 8: output room is shorter than the bytes to write
-    ∷ row none 0x00 0x00 0x00
+    ∷ row noStatus 0x00 0x00 0x00
     -- 9: PROTOCOL is 2, 7, 12, 13 or 14
     ∷ row checkCondition 0x05 0x24 0x00
     -- 10: an order is pending
@@ -64,32 +63,27 @@ table =
     -- 14: length above the host's declared length
     ∷ row checkCondition 0x05 0x24 0x00
     -- 15: completion while nothing is pending
-    ∷ row none 0x00 0x00 0x00
-    -- 16: the reader's page is not one the writer can make
-    ∷ row none 0x00 0x00 0x00
+    ∷ row noStatus 0x00 0x00 0x00
+    -- 16: a page 83h that the writer makes for no block
+    ∷ row noStatus 0x00 0x00 0x00
     ∷ []
 
 -- A number that has no row answers nothing.
 abbrev pub noRow : Row
-noRow = row none 0x00 0x00 0x00
+noRow = row noStatus 0x00 0x00 0x00
 
 unfoldable pub rowOf : ℕ → Row
 rowOf number = getD table number noRow
 
--- "Key, ASC and ASCQ stand three bytes a row, one row for each number."
+-- Key, ASC and ASCQ of a row, as three bytes; and those of every row, by number.
 abbrev pub threeBytes : Row → List ℕ
 threeBytes r = r .key ∷ r .asc ∷ r .ascq ∷ []
 
 abbrev pub codes : List (List ℕ)
 codes = map threeBytes table
 
--- "A row with a key writes exactly 8 sense bytes [..] Every other row writes nothing."
+-- A row with a key writes its sense data at the front of the sense room; a row without one writes nothing.
 unfoldable pub refusedSense : ℕ → List ℕ → List ℕ
 refusedSense number room =
     cond (eqb (rowOf number .key) 0x00) room
     (written room 0 (senseData (rowOf number .key) (rowOf number .asc) (rowOf number .ascq) nothing))
-
--- "sense room of at least 22 bytes": a refusal that writes has it, since a shorter one is refusal 1. For private functions; no
--- rule names it.
-abbrev pub Roomy : ℕ → ℕ → Type 0
-Roomy number sense = (rowOf number .key ≡ 0x00 → ⊥) → 22 ≤ sense

@@ -1,4 +1,4 @@
--- Sense data: what a CHECK CONDITION tells the host. This is the one place that knows the bytes' form.
+-- Sense data: what a CHECK CONDITION tells the host (RULES 10). This is the one place that knows the bytes' form.
 use mathlib.Core.Bool.{Bool, cond}
 use mathlib.Core.List.{List, [], _∷_}
 use Prim.Native.Nat.{ℕ}
@@ -10,11 +10,11 @@ pub data Told : Type 0 where
   nothing : Told
   registers : Bool → List ℕ → Told
 
--- "With EXTEND zero the four upper bytes are 00."
+-- An upper register byte: shown with EXTEND, zero without.
 abbrev pub upper : Bool → ℕ → ℕ
 upper extend byte = cond extend byte 0x00
 
--- "error, count high, count low, LBA low high/low, mid high/low, high high/low, device, status"
+-- The registers as they are lent and shown: error, count, LBA low, mid and high with the upper byte first, device, status.
 abbrev pub shown : Bool → List ℕ → List ℕ
 shown extend lent =
     getD lent 0 0
@@ -26,8 +26,8 @@ shown extend lent =
     ∷ getD lent 10 0
     ∷ []
 
--- "exactly 8 sense bytes, `72 key ASC ASCQ 00 00 00 00`"; with registers
--- "22 bytes: `72 key ASC ASCQ 00 00 00 0E`, then `09 0C`, EXTEND as 00 or 01 .."
+-- Descriptor form: 72h, key, ASC, ASCQ, three zero bytes and the length of what follows: nothing, or the 14 bytes of an ATA
+-- status return descriptor, `09 0C`, EXTEND and the registers.
 unfoldable pub senseData : ℕ → ℕ → ℕ → Told → List ℕ
 senseData key asc ascq nothing = 0x72 ∷ key ∷ asc ∷ ascq ∷ 0x00 ∷ 0x00 ∷ 0x00 ∷ 0x00 ∷ []
 senseData key asc ascq (registers extend lent) =

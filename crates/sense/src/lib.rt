@@ -7,7 +7,8 @@ ghost use Prim.Native.Nat.{_<_, _≤_};
 ghost use lib.ListN.{length};
 ghost use Rattle.room.specs.Room.{Wrote};
 ghost use Rattle.sense.specs.Sense.{senseData, nothing, registers as told, upper as Sense·upper};
-ghost use Rattle.sense.specs.Refusal.{rowOf, threeBytes, refusedSense, Roomy};
+ghost use Rattle.sense.specs.Refusal.{rowOf, threeBytes, refusedSense};
+ghost use Rattle.sense.specs.Helpers.{Roomy};
 
 pub const GOOD: u8 = 0x00;
 

@@ -8,7 +8,8 @@ use native.Mathlib.Omega.{arith}
 use lib.Dec.{eqb·suc-zero}
 use lib.ListN.{length, getD, take, drop, length-map}
 use Rattle.room.proofs.Laws.{four}
-use Rattle.texts.specs.Text.{turned, space, spaced, shown}
+use Rattle.texts.specs.Text.{turned, space, spaced}
+use Rattle.texts.specs.Helpers.{shown}
 
 -- Turned twice is as it was.
 pub turned-twice : (s : List ℕ) → turned (turned s) ≡ s

@@ -1,2 +1,3 @@
--- Texts of an IDENTIFY block, as document 01 writes them.
+-- Texts of an IDENTIFY block.
 pub mod Text
+pub mod Helpers

@@ -5,7 +5,8 @@ ghost use mathlib.Core.List.{List, map};
 ghost use Prim.Native.Nat.{_+_, _%_, _<_, _≤_};
 ghost use lib.ListN.{length, getD, take, drop};
 ghost use Rattle.room.specs.Room.{Wrote};
-ghost use Rattle.texts.specs.Text.{turned, spaced, shown as Text·shown};
+ghost use Rattle.texts.specs.Text.{turned, spaced};
+ghost use Rattle.texts.specs.Helpers.{shown as Text·shown};
 
 // A byte of a text, with zero as a space or as it stands.
 pub fn shown(spaced: bool, byte: u8) -> u8

@@ -5,7 +5,7 @@ use native.Mathlib.Omega.{arith}
 use lib.ListN.{length, getD}
 use borrow.Author.Count.{below-more}
 use borrow.Author.Needs.{needs}
-use Rattle.texts.specs.Text.{shown}
+use Rattle.texts.specs.Helpers.{shown}
 use Rattle.identify.proofs.Drive.{equal-all, differ-at, differ-in-length}
 use Rattle.identify.proofs.alike.Statement.{statement}
 use Rattle.identify.proofs.alike.Tie as tie

@@ -8,9 +8,12 @@ use lib.Seq.{length-take-le}
 use borrow.Author.Tests.{eq-eqb, ne-eqb, lt-ltb, le-ltb}
 use Rattle.room.proofs.Laws.{cut}
 use Rattle.sense.specs.Refusal.{rowOf}
-use Rattle.request.specs.Request.{Request, request, isPacket, passesThrough, page, toWrite, refusalOf, earlyRefusal}
+use Rattle.inquiry_checks.specs.Request.{Request, request, isPacket, passesThrough}
+use Rattle.inquiry_checks.specs.Asked.{page, toWrite}
+use Rattle.inquiry_checks.specs.Checks.{refusalOf}
+use Rattle.inquiry_checks.specs.Helpers.{earlyRefusal}
 use Rattle.inquiry.specs.Inquiry.{inquiry}
-use Rattle.request.proofs.Laws.{Granted, granted, refused-early, refused-late, length-page, roomy}
+use Rattle.inquiry_checks.proofs.Laws.{Granted, granted, refused-early, refused-late, length-page, roomy}
 use borrow.Author.Needs.{needs}
 use Rattle.inquiry.proofs.inquiry.Statement.{statement}
 use Rattle.inquiry.proofs.inquiry.Tie as tie

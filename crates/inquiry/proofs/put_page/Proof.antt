@@ -1,7 +1,7 @@
 -- `put_page`: the page that the tests lead to.
 use mathlib.Core.Path.{_∙_, sym}
 use borrow.Author.Tests.{eq-eqb, ne-eqb}
-use Rattle.request.specs.Request.{page}
+use Rattle.inquiry_checks.specs.Asked.{page}
 use borrow.Author.Needs.{needs}
 use Rattle.inquiry.proofs.put_page.Statement.{statement}
 use Rattle.inquiry.proofs.put_page.Tie as tie

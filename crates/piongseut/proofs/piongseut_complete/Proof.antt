@@ -33,21 +33,21 @@ use denote.Triple.End.{Kepts, Fins, lastsOf}
 use denote.Triple.Entry.{Args, Vals, onEntry}
 use denote.Triple.Spec.{Meets, tripleOf}
 use denote.Triple.Table.{entered, cited}
-use Rattle.pending.specs.Complete.{outcome as stepOutcome, complete as completeRule}
-use Rattle.pending.specs.declared.Completed.{Completed}
-use Rattle.pending.proofs.Pending as T
-use Rattle.pending.proofs.Pending.Laws as T′
-use Rattle.pending.proofs.Completed as N
-use Rattle.pending.proofs.Completed.Laws as N′
-use Rattle.pending.specs.declared.Ended.{Ended}
-use Rattle.pending.proofs.Ended as O
-use Rattle.pending.proofs.Ended.Laws as O′
-use Rattle.pending.proofs.Thin.{mach, others, opened, closed, lends, back, stores-if, PostAt, exits, thin-meets}
-use Rattle.pending.proofs.Unmoved.{same-number, complete-unmoved}
-use Rattle.pending.proofs.Pending.complete as step
-use Rattle.pending.proofs.Pending.complete.Symbol as step-def
-use Rattle.pending.proofs.Pending.complete.Symbol.{name as #step}
-use Rattle.pending.proofs.Pending.complete.Met as step-thm
+use Rattle.passthrough.specs.Complete.{outcome as stepOutcome, complete as completeRule}
+use Rattle.passthrough.specs.declared.Completed.{Completed}
+use Rattle.passthrough.proofs.Pending as T
+use Rattle.passthrough.proofs.Pending.Laws as T′
+use Rattle.passthrough.proofs.Completed as N
+use Rattle.passthrough.proofs.Completed.Laws as N′
+use Rattle.passthrough.specs.declared.Ended.{Ended}
+use Rattle.passthrough.proofs.Ended as O
+use Rattle.passthrough.proofs.Ended.Laws as O′
+use Rattle.passthrough.proofs.Thin.{mach, others, opened, closed, lends, back, stores-if, PostAt, exits, thin-meets}
+use Rattle.passthrough.proofs.Unmoved.{same-number, complete-unmoved}
+use Rattle.passthrough.proofs.Pending.complete as step
+use Rattle.passthrough.proofs.Pending.complete.Symbol as step-def
+use Rattle.passthrough.proofs.Pending.complete.Symbol.{name as #step}
+use Rattle.passthrough.proofs.Pending.complete.Met as step-thm
 use Rattle.piongseut.proofs.piongseut_complete.Key.{name as #self}
 use Rattle.piongseut.proofs.piongseut_complete as f
 use Rattle.piongseut.proofs.piongseut_complete.Statement as stated
@@ -138,4 +138,4 @@ piongseut-complete-spec 𝓤 H 𝓜 𝓖 𝓡 =
     entered 𝓤 H (tripleOf 𝓤 H (𝓖 .A) f.signature (f.spec 𝓤 H (𝓖 .A) (𝓜 .mem) (𝓡 .run)))
     (tables 𝓤 H 𝓜 𝓡 code.env .C) (tables 𝓤 H 𝓜 𝓡 code.env .Λ) #self code.function (code.unfolded 𝓤 H 𝓜 𝓡)
     (meets 𝓤 H (𝓖 .A) (givenOf 𝓤 H 𝓜 𝓖) (𝓜 .mem) (𝓡 .run) (tablesOf 𝓤 H 𝓜 (tables 𝓤 H 𝓜 𝓡 code.env))
-    (cited 𝓤 H (Step 𝓤 H (𝓖 .A) (𝓜 .mem) (𝓡 .run)) 𝓜 𝓡 code.env #step step-def.routine code.calls-pending·Pending·complete (step-thm.met 𝓤 H 𝓜 𝓖 𝓡)))
+    (cited 𝓤 H (Step 𝓤 H (𝓖 .A) (𝓜 .mem) (𝓡 .run)) 𝓜 𝓡 code.env #step step-def.routine code.calls-passthrough·Pending·complete (step-thm.met 𝓤 H 𝓜 𝓖 𝓡)))

@@ -33,21 +33,21 @@ use denote.Triple.End.{Kepts, Fins, lastsOf}
 use denote.Triple.Entry.{Args, Vals, onEntry}
 use denote.Triple.Spec.{Meets, tripleOf}
 use denote.Triple.Table.{entered, cited}
-use Rattle.pending.specs.Submit.{outcome as stepOutcome, submit as submitRule}
-use Rattle.pending.specs.declared.Submitted.{Submitted}
-use Rattle.pending.proofs.Pending as T
-use Rattle.pending.proofs.Pending.Laws as T′
-use Rattle.pending.proofs.Submitted as N
-use Rattle.pending.proofs.Submitted.Laws as N′
-use Rattle.pending.specs.declared.Taken.{Taken}
-use Rattle.pending.proofs.Taken as O
-use Rattle.pending.proofs.Taken.Laws as O′
-use Rattle.pending.proofs.Thin.{mach, others, opened, closed, lends, back, stores-if, PostAt, exits, thin-meets}
-use Rattle.pending.proofs.Unmoved.{same-number, submit-unmoved}
-use Rattle.pending.proofs.Pending.submit as step
-use Rattle.pending.proofs.Pending.submit.Symbol as step-def
-use Rattle.pending.proofs.Pending.submit.Symbol.{name as #step}
-use Rattle.pending.proofs.Pending.submit.Met as step-thm
+use Rattle.passthrough.specs.Submit.{outcome as stepOutcome, submit as submitRule}
+use Rattle.passthrough.specs.declared.Submitted.{Submitted}
+use Rattle.passthrough.proofs.Pending as T
+use Rattle.passthrough.proofs.Pending.Laws as T′
+use Rattle.passthrough.proofs.Submitted as N
+use Rattle.passthrough.proofs.Submitted.Laws as N′
+use Rattle.passthrough.specs.declared.Taken.{Taken}
+use Rattle.passthrough.proofs.Taken as O
+use Rattle.passthrough.proofs.Taken.Laws as O′
+use Rattle.passthrough.proofs.Thin.{mach, others, opened, closed, lends, back, stores-if, PostAt, exits, thin-meets}
+use Rattle.passthrough.proofs.Unmoved.{same-number, submit-unmoved}
+use Rattle.passthrough.proofs.Pending.submit as step
+use Rattle.passthrough.proofs.Pending.submit.Symbol as step-def
+use Rattle.passthrough.proofs.Pending.submit.Symbol.{name as #step}
+use Rattle.passthrough.proofs.Pending.submit.Met as step-thm
 use Rattle.piongseut.proofs.piongseut_submit.Key.{name as #self}
 use Rattle.piongseut.proofs.piongseut_submit as f
 use Rattle.piongseut.proofs.piongseut_submit.Statement as stated
@@ -140,4 +140,4 @@ piongseut-submit-spec 𝓤 H 𝓜 𝓖 𝓡 =
     entered 𝓤 H (tripleOf 𝓤 H (𝓖 .A) f.signature (f.spec 𝓤 H (𝓖 .A) (𝓜 .mem) (𝓡 .run)))
     (tables 𝓤 H 𝓜 𝓡 code.env .C) (tables 𝓤 H 𝓜 𝓡 code.env .Λ) #self code.function (code.unfolded 𝓤 H 𝓜 𝓡)
     (meets 𝓤 H (𝓖 .A) (givenOf 𝓤 H 𝓜 𝓖) (𝓜 .mem) (𝓡 .run) (tablesOf 𝓤 H 𝓜 (tables 𝓤 H 𝓜 𝓡 code.env))
-    (cited 𝓤 H (Step 𝓤 H (𝓖 .A) (𝓜 .mem) (𝓡 .run)) 𝓜 𝓡 code.env #step step-def.routine code.calls-pending·Pending·submit (step-thm.met 𝓤 H 𝓜 𝓖 𝓡)))
+    (cited 𝓤 H (Step 𝓤 H (𝓖 .A) (𝓜 .mem) (𝓡 .run)) 𝓜 𝓡 code.env #step step-def.routine code.calls-passthrough·Pending·submit (step-thm.met 𝓤 H 𝓜 𝓖 𝓡)))

@@ -4,7 +4,8 @@ use Prim.Native.Nat.{_≤_, _-_}
 use native.Mathlib.Omega.{arith}
 use lib.ListN.{length, length-set}
 use mathlib.Core.List.{[]}
-use Rattle.roll.specs.Roll.{Rolled, blocksIn, drivesFrom}
+use Rattle.roll.specs.Roll.{blocksIn, drivesFrom}
+use Rattle.roll.specs.Helpers.{Rolled}
 use Rattle.roll.proofs.Laws.{one-more, drives-at-most, length-blocks}
 use borrow.Author.Needs.{needs}
 use Rattle.roll.proofs.put_rows.Statement.{statement}

@@ -5,7 +5,8 @@ use Prim.Native.Nat.{_-_}
 use native.Mathlib.Omega.{arith}
 use lib.ListN.{length}
 use Rattle.room.proofs.Laws.{Writing, begin, turn, next, done}
-use Rattle.texts.specs.Text.{turned, shown}
+use Rattle.texts.specs.Text.{turned}
+use Rattle.texts.specs.Helpers.{shown}
 use Rattle.texts.proofs.Text.{length-text}
 use borrow.Author.Needs.{needs}
 use Rattle.texts.proofs.put_each.Statement.{statement}

@@ -2,7 +2,7 @@
 use mathlib.Core.Path.{_∙_, sym}
 use native.Mathlib.Omega.{arith}
 use borrow.Author.Needs.{needs}
-use Rattle.texts.specs.Text.{shown}
+use Rattle.texts.specs.Helpers.{shown}
 use Rattle.texts.proofs.Text.{turned-pair, turned-last}
 use Rattle.texts.proofs.turned_at.Statement.{statement}
 use Rattle.texts.proofs.turned_at.Tie as tie

@@ -1,0 +1,218 @@
+// Inquiry checks: what is asked of INQUIRY, the size of its page, and the checks, one function each; `fault` runs them in the table's
+// order. The rules stand in specs/: Request, Asked and Checks.
+ghost use mathlib.Core.Path.{_≡_};
+ghost use mathlib.Core.Bool.{Bool, true, _&&_, _||_, not};
+ghost use mathlib.Core.List.{List};
+ghost use Prim.Native.Nat.{ℕ, _≤_};
+ghost use lib.Dec.{eqb};
+ghost use lib.ListN.{length};
+ghost use Rattle.inquiry_fields.specs.Fields.{evpd};
+ghost use Rattle.inquiry_checks.specs.Request.{request, passesThrough};
+ghost use Rattle.inquiry_checks.specs.Checks.{wrongSize, wrongField, knownPage, wrongPage, noBlock, noList};
+ghost use Rattle.inquiry_checks.specs.Helpers.{fromBlock, sizeOf, earlyRefusal};
+
+// Neither 512 bytes nor none.
+fn wrong_block(block: usize) -> bool
+    ensures { λ r. ⌜ r ≡ not (eqb block 512 || eqb block 0) ⌝ }
+{
+    if block == 512 {
+        return false;
+    }
+    block != 0
+}
+
+// 1: a lent piece breaks the sizes.
+fn wrong_size(block: &[u8], signature: &[u8], texts: &[u8], sense: usize) -> bool
+    ensures { λ r. ⌜ r ≡ wrongSize (now (block .entry)) (now (signature .entry)) (now (texts .entry)) sense ⌝ }
+{
+    if wrong_block(block.len()) {
+        return true;
+    }
+    if signature.len() != 20 {
+        return true;
+    }
+    if texts.len() != 28 {
+        return true;
+    }
+    sense < 22
+}
+
+// 4: NACA, CMDDT, or a page code without EVPD.
+fn wrong_field(packet: bool, command: &[u8]) -> bool
+    requires { ⌜ 6 ≤ length (now command) ⌝ }
+    ensures { λ r. ⌜ r ≡ (not packet && wrongField (now (command .entry))) ⌝ }
+{
+    if packet {
+        return false;
+    }
+    if inquiry_fields::naca(command) {
+        return true;
+    }
+    if inquiry_fields::cmddt(command) {
+        return true;
+    }
+    if inquiry_fields::evpd(command) {
+        return false;
+    }
+    command[2] != 0x00
+}
+
+// Whether a page is one of 00h, 80h, 83h, 89h.
+fn known_page(code: u8) -> bool
+    ensures { λ r. ⌜ r ≡ knownPage code ⌝ }
+{
+    if code == 0x00 {
+        return true;
+    }
+    if code == 0x80 {
+        return true;
+    }
+    if code == 0x83 {
+        return true;
+    }
+    code == 0x89
+}
+
+// 5: EVPD and a page that is not served.
+fn wrong_page(packet: bool, command: &[u8]) -> bool
+    requires { ⌜ 6 ≤ length (now command) ⌝ }
+    ensures { λ r. ⌜ r ≡ (not packet && wrongPage (now (command .entry))) ⌝ }
+{
+    if packet {
+        return false;
+    }
+    if inquiry_fields::evpd(command) {
+        return !known_page(command[2]);
+    }
+    false
+}
+
+// 6: no IDENTIFY block, and standard data, 80h or 83h is asked.
+fn no_block(packet: bool, command: &[u8], block: &[u8]) -> bool
+    requires { ⌜ 6 ≤ length (now command) ⌝ }
+    ensures { λ r. ⌜ r ≡ (not packet && noBlock (now (command .entry)) (now (block .entry))) ⌝ }
+{
+    if packet {
+        return false;
+    }
+    if block.len() != 0 {
+        return false;
+    }
+    if !inquiry_fields::evpd(command) {
+        return true;
+    }
+    if command[2] == 0x80 {
+        return true;
+    }
+    command[2] == 0x83
+}
+
+// Whether a packet drive's own reply is shown.
+pub fn passes_through(packet: bool, command: &[u8]) -> bool
+    requires { ⌜ 6 ≤ length (now command) ⌝ }
+    ensures { λ r. ⌜ r ≡ passesThrough packet (now (command .entry)) ⌝ }
+{
+    if !packet {
+        return false;
+    }
+    if !inquiry_fields::evpd(command) {
+        return true;
+    }
+    if inquiry_fields::cmddt(command) {
+        return true;
+    }
+    if command[2] == 0x00 {
+        return false;
+    }
+    command[2] != 0x89
+}
+
+// 7: page 00h is asked of a packet drive and its own is unusable.
+fn no_list(packet: bool, command: &[u8], reply: &[u8]) -> bool
+    requires { ⌜ 6 ≤ length (now command) ⌝ }
+    ensures { λ r. ⌜ r ≡ noList packet (now (command .entry)) (now (reply .entry)) ⌝ }
+{
+    if !packet {
+        return false;
+    }
+    if passes_through(packet, command) {
+        return false;
+    }
+    if command[2] != 0x00 {
+        return false;
+    }
+    packet::unusable(reply)
+}
+
+// Whether standard data is asked for.
+pub fn standard_asked(packet: bool, command: &[u8]) -> bool
+    requires { ⌜ 6 ≤ length (now command) ⌝ }
+    ensures { λ r. ⌜ r ≡ (not packet && not (evpd (now (command .entry)))) ⌝ }
+{
+    if packet {
+        return false;
+    }
+    !inquiry_fields::evpd(command)
+}
+
+// The size of the page that is asked for.
+pub fn size(packet: bool, command: &[u8], block: &[u8], reply: &[u8]) -> usize
+    requires { ⌜ (6 ≤ length (now command)) × (fromBlock packet (now command) ≡ true → length (now block) ≡ 512) ⌝ }
+    ensures { λ r. ⌜ r ≡ sizeOf packet (now (command .entry)) (now (block .entry)) (now (reply .entry)) ⌝ }
+{
+    if standard_asked(packet, command) {
+        return pages::STANDARD_SIZE;
+    }
+    if command[2] == 0x00 {
+        if packet {
+            return packet::size(reply);
+        }
+        return 8;
+    }
+    if command[2] == 0x80 {
+        return pages::SERIAL_SIZE;
+    }
+    if command[2] == 0x83 {
+        return page83::size(block);
+    }
+    pages::information_size(block)
+}
+
+// The number of the first check that applies, but for that of the room, and 0 where none does.
+pub fn fault(
+    command: &[u8],
+    block: &[u8],
+    signature: &[u8],
+    texts: &[u8],
+    reply: &[u8],
+    sense: usize,
+) -> u8
+    ensures { λ r. ⌜ r ≡ earlyRefusal (request (now (command .entry)) (now (block .entry)) (now (signature .entry)) (now (texts .entry)) (now (reply .entry))) sense ⌝ }
+{
+    if wrong_size(block, signature, texts, sense) {
+        return 1;
+    }
+    if command.len() == 0 {
+        return 2;
+    }
+    if command[0] != 0x12 {
+        return 3;
+    }
+    if command.len() < 6 {
+        return 2;
+    }
+    let packet = packet::packet_drive(signature);
+    if wrong_field(packet, command) {
+        return 4;
+    }
+    if wrong_page(packet, command) {
+        return 5;
+    }
+    if no_block(packet, command, block) {
+        return 6;
+    }
+    if no_list(packet, command, reply) {
+        return 7;
+    }
+    0
+}

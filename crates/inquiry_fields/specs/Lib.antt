@@ -1,0 +1,2 @@
+-- The fields of an INQUIRY command.
+pub mod Fields

@@ -1,0 +1,2 @@
+-- The reader of page 83h.
+pub mod Reader

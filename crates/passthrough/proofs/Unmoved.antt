@@ -1,0 +1,68 @@
+-- A step that leaves the record's state leaves the record: what it moves, it moves from nothing pending to an order, or back.
+use mathlib.Core.Path.{_≡_, refl, sym, ap, _∙_}
+use mathlib.Core.Bool.{Bool, true, false, cond, not, true≢false}
+use mathlib.Core.List.{List}
+use Prim.Native.Nat.{ℕ}
+use lib.Dec.{eqb, eqb→eq, T as Holds}
+use lib.ListN.{length}
+use borrow.Author.Tests.{eqb-true}
+use Rattle.rules.proofs.First.{silent}
+use Rattle.passthrough_fields.specs.Fields.{protocol}
+use Rattle.passthrough_order.specs.Order.{orderOf}
+use Rattle.passthrough_checks.specs.Checks as Check
+use Rattle.passthrough.specs.declared.Pending.{Pending}
+use Rattle.passthrough.specs.declared.Submitted.{Submitted}
+use Rattle.passthrough.specs.declared.Completed.{Completed}
+use Rattle.passthrough.specs.Record.{nothingPending}
+use Rattle.passthrough.specs.Submit as Submit
+use Rattle.passthrough.specs.Complete as Complete
+
+-- How the code asks for it: two numbers that are not different.
+settled : (b : Bool) → Holds (not (not b)) → Holds b
+settled true z = z
+settled false z = z
+
+pub same-number : (m n : ℕ) → Holds (not (not (eqb m n))) → m ≡ n
+same-number m n z = eqb→eq m n (settled (eqb m n) z)
+
+module _ (p : Pending) (command registers : List ℕ) (declared : ℕ) (sense : List ℕ) where
+  abbrev refusal : ℕ
+  refusal = Submit.refusalOf p command registers declared (length sense)
+
+  -- An order is taken only where none was pending.
+  none-pending : refusal ≡ 0 → eqb (protocol command) 15 ≡ false → nothingPending p ≡ false → ⊥
+  unfolding Check.refusalOf
+  none-pending e f n =
+      true≢false (rw (n, f) at (silent (Check.checksOf (not (nothingPending p)) command (length registers) declared (length sense)) refl e .1 .1 .1 .1 .1 .1 .0))
+
+  unmoved-by : (b told : Bool) → eqb refusal 0 ≡ b → eqb (protocol command) 15 ≡ told
+      → let o = cond b (cond told (Submit.reported p registers sense) (Submit.taken (orderOf command declared) sense)) (Submit.refused p refusal sense) in
+      o .submitted .next .state ≡ p .state → o .submitted .next ≡ p
+  unmoved-by false told e f h = refl
+  unmoved-by true true e f h = refl
+  unmoved-by true false e f h = absurd (none-pending (eqb-true refusal 0 e) f (rw (← h)))
+
+  pub submit-unmoved : {r : Submitted} {s : List ℕ} → Submit.outcome r s ≡ Submit.submit p command registers declared sense → r .next .state ≡ p .state → r .next ≡ p
+  unfolding Submit.submit
+  submit-unmoved e h =
+      let n = ap (λ (o : Submit.Outcome). o .submitted .next) e in
+      n ∙ unmoved-by (eqb refusal 0) (eqb (protocol command) 15) refl refl (ap (λ (q : Pending). q .state) (sym n) ∙ h)
+
+module _ (p : Pending) (registers sense : List ℕ) where
+  abbrev ending : ℕ
+  ending = Complete.refusalOf p registers (length sense)
+
+  -- An order is ended only where one was pending.
+  some-pending : ending ≡ 0 → nothingPending p ≡ true → ⊥
+  unfolding Complete.refusalOf
+  some-pending e n = true≢false (sym n ∙ silent (Complete.checksOf p registers (length sense)) refl e .1 .0)
+
+  ended-by : (b : Bool) → eqb ending 0 ≡ b → let o = cond b (Complete.ended p registers sense) (Complete.refused p ending sense) in o .completed .next .state ≡ p .state → o .completed .next ≡ p
+  ended-by false e h = refl
+  ended-by true e h = absurd (some-pending (eqb-true ending 0 e) (rw (← h)))
+
+  pub complete-unmoved : {r : Completed} {s : List ℕ} → Complete.outcome r s ≡ Complete.complete p registers sense → r .next .state ≡ p .state → r .next ≡ p
+  unfolding Complete.complete
+  complete-unmoved e h =
+      let n = ap (λ (o : Complete.Outcome). o .completed .next) e in
+      n ∙ ended-by (eqb ending 0) refl (ap (λ (q : Pending). q .state) (sym n) ∙ h)

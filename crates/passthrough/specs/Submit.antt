@@ -1,0 +1,51 @@
+-- Submitting a pass-through command: what comes of it (RULES 9).
+use mathlib.Core.Bool.{cond, not, false}
+use mathlib.Core.List.{List}
+use Prim.Native.Nat.{ℕ}
+use lib.Dec.{eqb}
+use lib.ListN.{length}
+use Rattle.room.specs.Room.{written}
+use Rattle.sense.specs.Refusal.{rowOf, refusedSense, noStatus, checkCondition}
+use Rattle.sense.specs.Sense.{senseData, registers as told}
+use Rattle.passthrough_order.specs.declared.Order.{Order}
+use Rattle.passthrough_fields.specs.Fields.{protocol}
+use Rattle.passthrough_order.specs.Order.{noOrder, orderOf}
+use Rattle.passthrough_checks.specs.Checks as Check
+use Rattle.passthrough.specs.declared.Pending.{Pending}
+use Rattle.passthrough.specs.declared.Submitted.{Submitted}
+use Rattle.passthrough.specs.Record.{holding, nothingPending}
+
+-- The number of the first check that applies, and 0 where none does.
+abbrev pub refusalOf : Pending → List ℕ → List ℕ → ℕ → ℕ → ℕ
+refusalOf pending command registers declared sense =
+    Check.refusalOf (not (nothingPending pending)) command (length registers) declared sense
+
+-- Everything that comes back, and every lent byte that can change.
+pub record Outcome : Type 0 where
+  pub submitted : Submitted
+  pub sense : List ℕ
+
+abbrev pub outcome : Submitted → List ℕ → Outcome
+outcome submitted sense = record { submitted = submitted; sense = sense }
+
+abbrev pub answer : Pending → ℕ → ℕ → Order → Submitted
+answer next number status order = record { next = next; taken = record { number = number; status = status; order = order } }
+
+-- A refusal answers a zero order and hands back the record that it was given.
+abbrev pub refused : Pending → ℕ → List ℕ → Outcome
+refused pending number sense = outcome (answer pending number (rowOf number .status) noOrder) (refusedSense number sense)
+
+-- Protocol 15 makes no order and leaves the record: it tells the lent registers, with EXTEND zero, as CHECK CONDITION.
+abbrev pub reported : Pending → List ℕ → List ℕ → Outcome
+reported pending registers sense =
+    outcome (answer pending 0 checkCondition noOrder) (written sense 0 (senseData 0x01 0x00 0x1D (told false registers)))
+
+-- An order that is taken fills the record, and has no status until it is completed.
+abbrev pub taken : Order → List ℕ → Outcome
+taken order sense = outcome (answer (holding order) 0 noStatus order) sense
+
+unfoldable pub submit : Pending → List ℕ → List ℕ → ℕ → List ℕ → Outcome
+submit pending command registers declared sense =
+    cond (eqb (refusalOf pending command registers declared (length sense)) 0)
+    (cond (eqb (protocol command) 15) (reported pending registers sense) (taken (orderOf command declared) sense))
+    (refused pending (refusalOf pending command registers declared (length sense)) sense)

@@ -1,0 +1,48 @@
+// The end of an order: its checks, its status and what its sense data tell.
+use crate::Pending;
+use passthrough_order::Order;
+ghost use mathlib.Core.Path.{_≡_};
+ghost use Prim.Native.Nat.{_≤_};
+ghost use lib.ListN.{length};
+ghost use Rattle.passthrough.specs.Complete.{refusalOf, failed as Complete·failed, endStatus, endSense};
+
+// The number of the first check that applies, and 0 where none does.
+pub fn fault(pending: Pending, registers: &[u8], sense: usize) -> u8
+    ensures { λ r. ⌜ r ≡ refusalOf pending (now (registers .entry)) sense ⌝ }
+{
+    if passthrough_checks::wrong_size(registers.len(), sense) {
+        return 1;
+    }
+    if pending.state == 0 {
+        return 15;
+    }
+    0
+}
+
+// Whether the drive reports an error: ERR or DF in its status.
+fn failed(registers: &[u8]) -> bool
+    requires { ⌜ length (now registers) ≡ 11 ⌝ }
+    ensures { λ r. ⌜ r ≡ Complete·failed (now (registers .entry)) ⌝ }
+{
+    rules::bit(registers[10], 0) | rules::bit(registers[10], 5)
+}
+
+// Writes the sense data of an order's end, where it has any, and gives its status.
+pub fn tell(order: Order, registers: &[u8], sense: &mut [u8]) -> u8
+    requires { ⌜ (length (now registers) ≡ 11) × (22 ≤ length (now sense)) ⌝ }
+    ensures status { λ r. ⌜ r ≡ endStatus order (now (registers .entry)) ⌝ }
+    ensures sense { λ _. ⌜ now (sense .exit) ≡ endSense order (now (registers .entry)) (now (sense .entry)) ⌝ }
+{
+    let failed = failed(registers);
+    let checked = order.ck_cond != 0;
+    let extend = order.extend != 0;
+    if failed {
+        sense::report(sense, 0x0B, 0x00, 0x00, extend, registers);
+        return sense::CHECK_CONDITION;
+    }
+    if checked {
+        sense::report(sense, 0x01, 0x00, 0x1D, extend, registers);
+        return sense::CHECK_CONDITION;
+    }
+    sense::GOOD
+}

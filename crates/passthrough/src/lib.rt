@@ -1,0 +1,126 @@
+// Pass-through: the record that holds the one order that is pending, a command submitted to it, and the order's completion. The
+// rules stand in specs/: Record, Submit and Complete.
+mod finish;
+
+use passthrough_order::Order;
+use passthrough_order::read;
+ghost use mathlib.Core.Path.{_≡_};
+ghost use Rattle.passthrough.specs.Record.{empty as Record·empty};
+ghost use Rattle.passthrough.specs.Submit.{outcome as Submit·outcome, answer as Submit·answer, submit as Submit·submit};
+ghost use Rattle.passthrough.specs.Complete.{outcome as Complete·outcome, answer as Complete·answer, complete as Complete·complete};
+
+// The pending record. State 0 holds nothing, 1 an order.
+#[repr(C)]
+pub struct Pending {
+    pub state: u32,
+    pub order: Order,
+}
+
+// What comes back of a command: the refusal's number or 0, the status, and the order, zero where none was taken.
+#[repr(C)]
+pub struct Taken {
+    pub number: u8,
+    pub status: u8,
+    pub order: Order,
+}
+
+// The record after a command, and what comes back of it.
+pub struct Submitted {
+    pub next: Pending,
+    pub taken: Taken,
+}
+
+// What comes back of a completion.
+#[repr(C)]
+pub struct Ended {
+    pub number: u8,
+    pub status: u8,
+}
+
+// The record after a completion, and what comes back of it.
+pub struct Completed {
+    pub next: Pending,
+    pub ended: Ended,
+}
+
+// The answer to a command.
+fn answer(next: Pending, number: u8, status: u8, order: Order) -> Submitted
+    ensures { λ r. ⌜ r ≡ Submit·answer next number status order ⌝ }
+{
+    Submitted {
+        next,
+        taken: Taken {
+            number,
+            status,
+            order,
+        },
+    }
+}
+
+// The answer to a completion.
+fn end(next: Pending, number: u8, status: u8) -> Completed
+    ensures { λ r. ⌜ r ≡ Complete·answer next number status ⌝ }
+{
+    Completed {
+        next,
+        ended: Ended { number, status },
+    }
+}
+
+impl Pending {
+    // A record that holds nothing.
+    pub fn empty() -> Pending
+        ensures { λ r. ⌜ r ≡ Record·empty ⌝ }
+    {
+        Pending {
+            state: 0,
+            order: passthrough_order::no_order(),
+        }
+    }
+
+    // A pass-through command: refused, answered (protocol 15), or taken into the record.
+    pub fn submit(
+        self,
+        command: &[u8],
+        registers: &[u8],
+        declared: u32,
+        sense: &mut [u8],
+    ) -> Submitted
+        ensures { λ r. ⌜ Submit·outcome r (now (sense .exit)) ≡ Submit·submit self (now (command .entry)) (now (registers .entry)) declared (now (sense .entry)) ⌝ }
+    {
+        let nothing = passthrough_order::no_order();
+        let number = passthrough_checks::fault(
+            self.state != 0,
+            command,
+            registers.len(),
+            sense.len(),
+        );
+        if number != 0 {
+            return answer(self, number, sense::refuse(sense, number), nothing);
+        }
+        let protocol = passthrough_fields::protocol(command);
+        if protocol == 15 {
+            sense::report(sense, 0x01, 0x00, 0x1D, false, registers);
+            return answer(self, 0, sense::CHECK_CONDITION, nothing);
+        }
+        let order = read::order(command, declared);
+        let late = passthrough_checks::length_fault(protocol, order.length, declared);
+        if late != 0 {
+            return answer(self, late, sense::refuse(sense, late), nothing);
+        }
+        answer(Pending { state: 1, order }, 0, sense::NONE, order)
+    }
+
+    // The end of the order that is pending, with the registers that the drive left.
+    pub fn complete(self, registers: &[u8], sense: &mut [u8]) -> Completed
+        ensures { λ r. ⌜ Complete·outcome r (now (sense .exit)) ≡ Complete·complete self (now (registers .entry)) (now (sense .entry)) ⌝ }
+    {
+        let empty = Pending::empty();
+        let number = finish::fault(self, registers, sense.len());
+        if number != 0 {
+            return end(self, number, sense::refuse(sense, number));
+        }
+        let status = finish::tell(self.order, registers, sense);
+        end(empty, 0, status)
+    }
+}

@@ -1,0 +1,3 @@
+-- The checks that refuse a pass-through command.
+pub mod Checks
+pub mod Helpers

@@ -1,0 +1,2 @@
+-- The order that a pass-through command makes.
+pub mod Order

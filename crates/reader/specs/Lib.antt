@@ -1,2 +1,0 @@
--- The reader of page 83h, as document 01 has it.
-pub mod Reader
