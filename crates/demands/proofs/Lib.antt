@@ -1,5 +1,7 @@
--- The theorems, by the crate whose rules they are about.
+-- The promises kept: `Kept` gathers the proofs, which stand by subject.
+pub mod Refusals
 pub mod Inquiry
 pub mod Order
 pub mod Page83
 pub mod Roll
+pub mod Kept

@@ -1,26 +1,30 @@
--- Page 83h, written and read. Demand 2: "The identification page's reader accepts just those pages that the writer can make, and
--- gives back the name that went in, a text's zero bytes as spaces". Demand 3, of two drives: "Their complete identification
--- pages [..] are equal under that same condition and no other".
+-- Page 83h, written and read (demand 2), and when the pages of two blocks are equal (demand 3).
 use mathlib.Core.Path.{_≡_, refl, sym, ap, _∙_}
 use mathlib.Core.Bool.{Bool, true, false, not, _&&_, _||_, and-eq-true-iff, and-false, or-true, false≢true}
 use mathlib.Core.Logic.{_⊎_, inl, inr, _↔_}
 use mathlib.Core.List.{List, [], _∷_, _++_, append-assoc, map-append}
-use Prim.Native.Nat.{ℕ, zero, suc, _+_, _*_, _-_, _<_}
+use Prim.Native.Nat.{ℕ, zero, suc, _+_, _*_, _-_, _≤_, _<_}
 use native.Mathlib.Omega.{arith}
-use lib.Dec.{eqb, eqb·suc-zero}
+use lib.Dec.{eqb, ltb, eqb·suc-zero}
 use lib.ListN.{length, getD, take, drop, replicate, length-append, length-take, length-drop, length-replicate, take-append-drop}
 use lib.Seq.{take-at, drop-at, drop-drop}
-use borrow.Author.Tests.{eq-eqb, eqb-true}
+use borrow.Author.Tests.{eq-eqb, eqb-true, le-ltb, ltb-false, not-false}
+use Rattle.rules.specs.First.{_when_}
+use Rattle.rules.proofs.First.{silent}
+use Rattle.room.specs.Room.{written}
 use Rattle.identify.specs.Block.{words, serial, model, name}
 use Rattle.texts.specs.Text.{turned, space, spaced}
 use Rattle.identify.specs.Drive.{someBit, carriesName, equal, sameDrive}
 use Rattle.identify.proofs.Block.{length-name}
 use Rattle.texts.proofs.Text.{turned-twice, turned-injective, turned-map, length-turned}
 use Rattle.identify.proofs.Drive.{equal-same, OneName, OneText, same-drive-means, same-drive-when}
-use Rattle.page83_reader.specs.declared.Name.{Name}
-use Rattle.page83.specs.Page83.{page83, namePage, textPage, Outcome, write}
+use Rattle.page83.specs.Page83 as Page83
+use Rattle.page83.specs.Page83.{page83, namePage, textPage, refusalOf, Outcome, write}
 use Rattle.page83_reader.specs.Reader.{noZero, namesDrive, tellsTexts, inSixty, read}
+use Rattle.room.proofs.Laws.{front}
 use Rattle.page83.proofs.Laws.{named-page, unnamed-page, length-model-text, length-serial-text}
+use Rattle.demands.specs.Promises.{Bytes, no-more, more, left, nameOf, ReadsBack, AcceptedIsWritten, PagesOfTheWriter}
+use Rattle.demands.proofs.Refusals.{not-refused}
 
 -- Turning makes no bit and loses none.
 or-swap : (p q r : Bool) → (p || (q || r)) ≡ (q || (p || r))
@@ -63,15 +67,15 @@ passed n k head page asked h =
     (eqb-true (length page) n (v .0), rw (← equal-same (take k page) head (v .1)) (take-append-drop k page), w .1)
 
 module _ (block : List ℕ) (l : length block ≡ 512) where
-  -- Demand 2, the reader "gives back the name that went in": of a drive that carries a name.
-  pub reads-back-name : carriesName block ≡ true → read (page83 block) ≡ record { number = 0; form = 1; name = inSixty (turned (name block)) }
+  -- The page of a drive that carries a name is read as its name,
+  reads-back-name : carriesName block ≡ true → read (page83 block) ≡ record { number = 0; form = 1; name = inSixty (turned (name block)) }
   unfolding carriesName
   reads-back-name h =
       rw (named-page block h)
       (read-name (turned (name block)) (length-turned (name block) ∙ length-name block l) (some-bit-turned (name block) ∙ h))
 
-  -- And of a drive that carries none: model and serial number, "a text's zero bytes as spaces".
-  pub reads-back-texts : carriesName block ≡ false → read (page83 block) ≡ record { number = 0; form = 2; name = inSixty (spaced (turned (model block)) ++ spaced (turned (serial block))) }
+  -- and that of a drive that carries none as its model and its serial number.
+  reads-back-texts : carriesName block ≡ false → read (page83 block) ≡ record { number = 0; form = 2; name = inSixty (spaced (turned (model block)) ++ spaced (turned (serial block))) }
   reads-back-texts h =
       let m = turned (model block) in
       let s = turned (serial block) in
@@ -79,13 +83,43 @@ module _ (block : List ℕ) (l : length block ≡ 512) where
       (read-texts (spaced m ++ spaced s) (length-append (spaced m) (spaced s) ∙ omega (arith, length-model-text block l, length-serial-text block l))
       (ap noZero (sym (map-append space m s)) ∙ no-zero-spaced (m ++ s)))
 
-  -- So the reader accepts every page that the writer can make.
-  pub written-is-accepted : read (page83 block) .number ≡ 0
-  written-is-accepted = by (carriesName block) refl
+  reads-name : read (page83 block) ≡ nameOf block
+  reads-name = by (carriesName block) refl
     where
-      by : (b : Bool) → carriesName block ≡ b → read (page83 block) .number ≡ 0
-      by true h = rw (reads-back-name h)
-      by false h = rw (reads-back-texts h)
+      by : (b : Bool) → carriesName block ≡ b → read (page83 block) ≡ nameOf block
+      by true h = reads-back-name h ∙ sym (rw h)
+      by false h = reads-back-texts h ∙ sym (rw h)
+
+-- What the writer was lent where it is not refused, and what it leaves then: the page.
+module _ (block room : List ℕ) where
+  abbrev accepted : Outcome
+  accepted = Page83.outcome (record { number = 0; count = length (page83 block) }) (written room 0 (page83 block))
+
+  abbrev refused : ℕ → Outcome
+  refused number = Page83.outcome (record { number = number; count = 0 }) room
+
+  record Fits : Type 0 where
+    whole : length block ≡ 512
+    enough : length (page83 block) ≤ length room
+
+  fits : write block room .written .number ≡ 0 → Fits
+  unfolding write refusalOf
+  fits e =
+      let z = not-refused (λ (o : Outcome). o .written .number) refused accepted (refusalOf block (length room)) refl e in
+      let c = silent ((1 when not (eqb (length block) 512)) ∷ (8 when ltb (length room) (length (page83 block))) ∷ []) refl z in
+      record { whole = eqb-true _ _ (not-false _ (c .0)); enough = ltb-false _ _ (c .1 .0) }
+
+  write-is : Fits → write block room ≡ accepted
+  unfolding write refusalOf
+  write-is f = rw (eq-eqb _ _ (f .whole), le-ltb _ _ (f .enough))
+
+  left-is : Fits → left (write block room) ≡ page83 block
+  left-is f = ap left (write-is f) ∙ front room (page83 block) (f .enough)
+
+pub reads-back : ReadsBack
+reads-back block room e =
+    let f = fits block room e in
+    ap read (left-is block room f) ∙ reads-name block (f .whole)
 
 -- A field that is put at its place in a block is read back there.
 put-back : (first last : ℕ) (block before field behind : List ℕ) → block ≡ before ++ field ++ behind → length before ≡ 2 * first → length field ≡ 2 * (last + 1 - first) → words first last block ≡ field
@@ -142,29 +176,25 @@ module _ {s m n : List ℕ} (f : Fields s m n) where
   page-of-texts : someBit n ≡ false → page83 (blockOf s m n) ≡ textPage (spaced (turned m)) (spaced (turned s))
   page-of-texts h = unnamed-page (blockOf s m n) (carries ∙ h) ∙ rw (model-of, serial-of)
 
--- Every number of a list is a byte. So it is of the block, where it is so of its fields.
-pub data Bytes : List ℕ → Type 0 where
-  none : Bytes []
-  more : {b : ℕ} {s : List ℕ} → b < 0x100 → Bytes s → Bytes (b ∷ s)
-
+-- A block is of bytes where its fields are.
 bytes-append : {s t : List ℕ} → Bytes s → Bytes t → Bytes (s ++ t)
-bytes-append none c = c
+bytes-append no-more c = c
 bytes-append (more h b) c = more h (bytes-append b c)
 
 bytes-cut : (k : ℕ) {s : List ℕ} → Bytes s → Bytes (take k s) × Bytes (drop k s)
-bytes-cut zero b = (none, b)
-bytes-cut (suc k) none = (none, none)
+bytes-cut zero b = (no-more, b)
+bytes-cut (suc k) no-more = (no-more, no-more)
 bytes-cut (suc k) (more h b) = let c = bytes-cut k b in (more h (c .0), c .1)
 
 bytes-turned : {s : List ℕ} → Bytes s → Bytes (turned s)
 unfolding turned
-bytes-turned none = none
-bytes-turned (more h none) = more h none
+bytes-turned no-more = no-more
+bytes-turned (more h no-more) = more h no-more
 bytes-turned (more h (more k b)) = more k (more h (bytes-turned b))
 
 bytes-zeros : (n : ℕ) → Bytes (zeros n)
 unfolding zeros
-bytes-zeros zero = none
+bytes-zeros zero = no-more
 bytes-zeros (suc n) = more {b = 0} (omega arith) (bytes-zeros n)
 
 bytes-block : {s m n : List ℕ} → Bytes s → Bytes m → Bytes n → Bytes (blockOf s m n)
@@ -172,7 +202,7 @@ unfolding blockOf
 bytes-block s m n = search (bytes-append, bytes-zeros) depth 8
 
 -- The writer can make this page: a block of 512 has it, and one of bytes where the page is of bytes.
-abbrev pub Made : List ℕ → Type 0
+abbrev Made : List ℕ → Type 0
 Made page = (block : List ℕ) × (length block ≡ 512) × (page83 block ≡ page) × (Bytes page → Bytes block)
 
 -- The block of a name page: its name, turned back, and zeros.
@@ -225,15 +255,22 @@ made-texts page h =
       λ b. bytes-block (bytes-turned (bytes-cut 56 b .1)) (bytes-turned (bytes-cut 40 (bytes-cut 16 b .1) .0)) (bytes-zeros 8),
     )
 
--- Demand 2, the reader "accepts just those pages that the writer can make": an accepted page is one of them.
-pub accepted-is-written : (page : List ℕ) → read page .number ≡ 0 → Made page
+-- An accepted page is one of them, and so the writer leaves it.
+accepted-is-made : (page : List ℕ) → read page .number ≡ 0 → Made page
 unfolding read
-accepted-is-written page h = by (namesDrive page) (tellsTexts page) refl refl
+accepted-is-made page h = by (namesDrive page) (tellsTexts page) refl refl
   where
     by : (p q : Bool) → namesDrive page ≡ p → tellsTexts page ≡ q → Made page
     by true q e f = made-name page e
     by false true e f = made-texts page f
     by false false e f = absurd (omega (arith, rw (e, f) at h))
+
+pub accepted-is-written : AcceptedIsWritten
+accepted-is-written page h =
+    let w = accepted-is-made page h in
+    (w .0, w .3, λ room l.
+        let f : Fits (w .0) room = record { whole = w .1; enough = rw (w .2) l } in
+        (ap (λ (o : Outcome). o .written .number) (write-is (w .0) room f), left-is (w .0) room f ∙ w .2))
 
 -- Texts are equal with their zero bytes as spaces, turned or not.
 one-text : (s t : List ℕ) → (spaced (turned s) ≡ spaced (turned t)) ↔ (spaced s ≡ spaced t)
@@ -246,7 +283,7 @@ apart n s t u v l k e =
     (sym (take-at s t n l) ∙ ap (take n) e ∙ take-at u v n k, sym (drop-at s t n l) ∙ ap (drop n) e ∙ drop-at u v n k)
 
 module _ (a b : List ℕ) where
-  -- Demand 3, the complete pages of two drives "are equal under that same condition": of the same drive they are equal.
+  -- Two blocks of the same drive have equal pages,
   pub same-drive-same-page : sameDrive a b ≡ true → page83 a ≡ page83 b
   same-drive-same-page e = by (same-drive-means a b e)
     where
@@ -254,7 +291,7 @@ module _ (a b : List ℕ) where
       by (inl w) = rw (named-page a (w .0), named-page b (w .1), w .2)
       by (inr w) = rw (unnamed-page a (w .0), unnamed-page b (w .1), one-text (model a) (model b) .1 (w .2), one-text (serial a) (serial b) .1 (w .3))
 
-  -- "and no other": equal pages are of the same drive. Byte 3 tells a name page from a text page.
+  -- and equal pages are of the same drive. Byte 3 tells a name page from a text page.
   pub same-page : length a ≡ 512 → length b ≡ 512 → page83 a ≡ page83 b → sameDrive a b ≡ true
   same-page la lb e = same-drive-when a b (by (carriesName a) (carriesName b) refl refl)
     where
@@ -267,9 +304,9 @@ module _ (a b : List ℕ) where
           let w = apart 40 (spaced (turned (model a))) _ (spaced (turned (model b))) _ (length-model-text a la) (length-model-text b lb) texts in
           inr (h, k, one-text (model a) (model b) .0 (w .0), one-text (serial a) (serial b) .0 (w .1))
 
--- What the reader gives and what the writer leaves depend on nothing but what they were given.
-pub one-reading : (page : List ℕ) {r s : Name} → r ≡ read page → s ≡ read page → r ≡ s
-one-reading page p q = p ∙ sym q
-
-pub one-writing : (block room : List ℕ) {r s : Outcome} → r ≡ write block room → s ≡ write block room → r ≡ s
-one-writing block room p q = p ∙ sym q
+pub pages-of-the-writer : PagesOfTheWriter
+pages-of-the-writer a b room other ea eb =
+    let f = fits a room ea in
+    let g = fits b other eb in
+    (λ e. same-page a b (f .whole) (g .whole) (sym (left-is a room f) ∙ e ∙ left-is b other g),
+    λ e. left-is a room f ∙ same-drive-same-page a b e ∙ sym (left-is b other g))

@@ -1,15 +1,26 @@
--- What the roll's rule says of demand 3, and that it leaves no choice. Each is a theorem about the rule, and the contract of
--- `roll` makes it one about the program.
-use mathlib.Core.Path.{_≡_, refl, sym, _∙_}
-use mathlib.Core.Bool.{Bool, true, false, cond, _||_, true≢false, false≢true}
-use mathlib.Core.List.{List, [], _∷_, _++_}
-use Prim.Native.Nat.{ℕ, suc, _≤_, _<_}
+-- Demand 3 of the roll: what an accepted roll leaves in the room and answers.
+use mathlib.Core.Path.{_≡_, refl, sym, ap, _∙_}
+use mathlib.Core.Bool.{Bool, true, false, cond, _||_, not, true≢false, false≢true}
+use mathlib.Core.Logic.{_↔_, ⊎-elim}
+use mathlib.Core.List.{List, [], _∷_, _++_, append-assoc}
+use Prim.Native.Nat.{ℕ, zero, suc, _+_, _*_, _/_, _%_, _-_, _≤_, _<_}
+use native.Mathlib.Nat.{eq-zero-or-pos}
 use native.Mathlib.Omega.{arith}
-use lib.ListN.{length, getD}
+use lib.Dec.{eqb, ltb}
+use lib.ListN.{length, getD, take, drop, length-append, List·getD-append}
+use lib.Seq.{getD-append-seam, getD-append-add, getD-drop, take-nil, drop-nil, take-take, take-all, length-take-le}
+use borrow.Author.Tests.{eqb-true, ltb-false, not-false, eq-eqb, le-ltb}
+use Rattle.rules.specs.First.{_when_}
+use Rattle.rules.proofs.First.{silent}
+use Rattle.room.specs.Room.{written}
+use Rattle.room.proofs.Laws.{written-front, length-written}
 use Rattle.identify.specs.Drive.{sameDrive}
 use Rattle.identify.proofs.Drive.{same-drive-self, same-drive-turned-round, same-drive-through}
-use Rattle.roll.specs.Roll.{known, met, drivesFrom, drives, rowIn, rows, Outcome, roll}
-use Rattle.roll.proofs.Laws.{known-append, known-met, known-drives, drives-append, row-same, row-kept, row-new, each-known, row-at, same-either-way}
+use Rattle.roll.specs.Roll.{blocksIn, blocks, blockAt, known, met, drivesFrom, drives, rowIn, rows, refusalOf, Outcome, roll}
+use Rattle.roll.specs.Roll as Roll
+use Rattle.roll.proofs.Laws.{blocks-more, length-blocks, block-of, known-append, known-met, known-drives, drives-append, drives-more, row-same, row-kept, row-new, rows-more, each-known, row-at, length-rows, read-row, unknown, same-either-way}
+use Rattle.demands.specs.Promises.{rowAt, Rolled, RollOfDrives}
+use Rattle.demands.proofs.Refusals.{not-refused}
 
 -- Rows run from 1, and a known drive shares its row with no other.
 from-one : (s : List (List ℕ)) (x : List ℕ) → 1 ≤ rowIn s x
@@ -32,72 +43,216 @@ row-means x y (d ∷ s) k r = by (sameDrive d x) (sameDrive d y) refl refl k r (
     by false true p q k r next = absurd (omega (arith, from-one s x))
     by false false p q k r next = next k (omega arith)
 
--- "two blocks share a row number exactly when" they are the same drive; `same-drive-means` and `same-drive-when` of identify
--- say when that is: "both carry a nonzero world wide name and it is the same one, or both carry none and have equal model and
--- serial fields with zero bytes read as spaces" (demand 3)
-pub share-a-row : (run : List (List ℕ)) (i j : ℕ) → i < length run → j < length run → getD (rows run) i 0 ≡ getD (rows run) j 0 → sameDrive (getD run i []) (getD run j []) ≡ true
-share-a-row run i j hi hj e =
-    row-means (getD run i []) (getD run j []) (drives run) (each-known run i hi)
-    (sym (row-at run (drives run) i hi) ∙ e ∙ row-at run (drives run) j hj)
-
-pub same-drive-same-row : (run : List (List ℕ)) (i j : ℕ) → i < length run → j < length run → sameDrive (getD run i []) (getD run j []) ≡ true → getD (rows run) i 0 ≡ getD (rows run) j 0
-same-drive-same-row run i j hi hj e =
-    row-at run (drives run) i hi ∙ row-same (getD run i []) (getD run j []) e (drives run) ∙ sym (row-at run (drives run) j hj)
-
--- No two of a list are the same drive.
-abbrev pub Apart : List (List ℕ) → Type 0
-Apart [] = Unit {0}
-Apart (drive ∷ rest) = (known drive rest ≡ false) × Apart rest
-
-apart-append : (s : List (List ℕ)) (b : List ℕ) → Apart s → known b s ≡ false → Apart (s ++ (b ∷ []))
-unfolding known
-apart-append [] b a h = (refl, tt)
-apart-append (d ∷ s) b a h = by (sameDrive d b) refl h (apart-append s b (a .1))
+-- A known drive's row is one of the list's.
+row-within : (s : List (List ℕ)) (x : List ℕ) → known x s ≡ true → rowIn s x ≤ length s
+unfolding known rowIn
+row-within [] x k = absurd (false≢true k)
+row-within (d ∷ s) x k = by (sameDrive d x) k (row-within s x)
   where
-    by : (e : Bool) → sameDrive d b ≡ e → (e || known b s) ≡ false → (known b s ≡ false → Apart (s ++ (b ∷ []))) → Apart (d ∷ (s ++ (b ∷ [])))
-    by true p h r = absurd (true≢false h)
-    by false p h r = (known-append d s (b ∷ []) ∙ rw (a .0, same-either-way b d, p), r h)
+    by : (e : Bool) → (e || known x s) ≡ true → (known x s ≡ true → rowIn s x ≤ length s) → cond e 1 (suc (rowIn s x)) ≤ suc (length s)
+    by true k r = omega arith
+    by false k r = let h = r k in omega arith
 
-apart-met : (s : List (List ℕ)) (b : List ℕ) → Apart s → Apart (met s b)
-apart-met s b a = by (known b s) refl
-  where
-    by : (k : Bool) → known b s ≡ k → Apart (cond k s (s ++ (b ∷ [])))
-    by true h = a
-    by false h = apart-append s b a h
-
-apart-drives : (seen run : List (List ℕ)) → Apart seen → Apart (drivesFrom seen run)
-unfolding drivesFrom
-apart-drives seen [] a = a
-apart-drives seen (b ∷ run) a = apart-drives (met seen b) run (apart-met seen b a)
-
--- "the drive count is the number of different drives": no two of those counted are the same, and they are the drives of the
--- run's blocks and no other (demand 3)
-pub drives-are-different : (run : List (List ℕ)) → Apart (drives run)
-drives-are-different run = apart-drives [] run tt
-
-pub drives-are-the-runs : (b : List ℕ) (run : List (List ℕ)) → known b (drives run) ≡ known b run
-unfolding known
-drives-are-the-runs b run = known-drives b [] run
-
--- The row of a known drive stays as the run goes on.
+-- The row of a known drive stays as the run goes on, so a new drive has the row behind those before it.
 row-stays : (x : List ℕ) (seen run : List (List ℕ)) → known x seen ≡ true → rowIn (drivesFrom seen run) x ≡ rowIn seen x
 unfolding drivesFrom
 row-stays x seen [] k = refl
 row-stays x seen (b ∷ run) k = row-stays x (met seen b) run (known-met x b seen ∙ rw k) ∙ row-kept x b seen k
 
--- "Rows run from 1 by first appearance": a block that is the same drive as none before it has the row behind theirs, and the
--- first of all has row 1 (demand 3)
-pub a-new-drive-gets-the-next-row : (before after : List (List ℕ)) (b : List ℕ) → known b before ≡ false → rowIn (drives (before ++ (b ∷ after))) b ≡ suc (length (drives before))
-unfolding drivesFrom
-a-new-drive-gets-the-next-row before after b h =
-    let k : known b (drives before) ≡ false = drives-are-the-runs b before ∙ h in
+next-row : (before after : List (List ℕ)) (b : List ℕ) → known b before ≡ false → rowIn (drives (before ++ (b ∷ after))) b ≡ suc (length (drives before))
+unfolding known drivesFrom
+next-row before after b h =
+    let k : known b (drives before) ≡ false = known-drives b [] before ∙ h in
     let s : known b (met (drives before) b) ≡ true = known-met b b (drives before) ∙ rw (k, same-drive-self b) in
     rw (drives-append [] before (b ∷ after)) (row-stays b (met (drives before) b) after s ∙ rw k (row-new b (drives before) k))
 
-pub rows-start-at-one : (b : List ℕ) (run : List (List ℕ)) → getD (rows (b ∷ run)) 0 0 ≡ 1
-unfolding known drivesFrom
-rows-start-at-one b run = a-new-drive-gets-the-next-row [] run b refl
+-- A run parted at one of its blocks.
+parted : (i n : ℕ) (bytes : List ℕ) → i < n → (after : List (List ℕ)) × (blocksIn n bytes ≡ blocksIn i bytes ++ (blockAt bytes i ∷ after))
+parted i zero bytes h = absurd (omega arith)
+parted i (suc n) bytes h =
+    ⊎-elim (λ z. let e : i ≡ n = omega arith in ([], rw e (blocks-more n bytes)))
+    (λ z.
+        let w = parted i n bytes (omega arith) in
+        (w .0 ++ (blockAt bytes n ∷ []), blocks-more n bytes ∙ ap (λ (l : List (List ℕ)). l ++ (blockAt bytes n ∷ [])) (w .1) ∙ append-assoc (blocksIn i bytes) (blockAt bytes i ∷ w .0) (blockAt bytes n ∷ [])))
+    (eq-zero-or-pos (n - i))
 
--- Two outcomes that the rule allows for one input are equal.
-pub one-roll : (bytes room : List ℕ) (a b : Outcome) → a ≡ roll bytes room → b ≡ roll bytes room → a ≡ b
-one-roll bytes room a b p q = p ∙ sym q
+-- Every number up to the drives' is the row of a block.
+abbrev Onto : ℕ → List ℕ → Type 0
+Onto n bytes = (r : ℕ) → 1 ≤ r → r ≤ length (drives (blocksIn n bytes)) → (i : ℕ) × (i < n) × (getD (rows (blocksIn n bytes)) i 0 ≡ r)
+
+module _ (n : ℕ) (bytes : List ℕ) (known-so-far : Onto n bytes) (r : ℕ) (h : 1 ≤ r) where
+  abbrev run : List (List ℕ)
+  run = blocksIn n bytes
+
+  abbrev b : List ℕ
+  b = blockAt bytes n
+
+  abbrev new : ℕ
+  new = rowIn (met (drives run) b) b
+
+  are : rows (blocksIn (suc n) bytes) ≡ rows run ++ (new ∷ [])
+  are = ap rows (blocks-more n bytes) ∙ rows-more run b
+
+  long : length (rows run) ≡ n
+  long = length-rows run (drives run) ∙ length-blocks n bytes
+
+  count : length (drives (blocksIn (suc n) bytes)) ≡ length (met (drives run) b)
+  count = ap (λ (l : List (List ℕ)). length (drives l)) (blocks-more n bytes) ∙ ap length (drives-more [] run b)
+
+  abbrev Some : Type 0
+  Some = (i : ℕ) × (i < suc n) × (getD (rows (blocksIn (suc n) bytes)) i 0 ≡ r)
+
+  before : r ≤ length (drives run) → Some
+  before l =
+      let w = known-so-far r h l in
+      (w .0, omega (arith, w .1), ap (λ (s : List ℕ). getD s (w .0) 0) are ∙ List·getD-append (rows run) (new ∷ []) 0 (w .0) (omega (arith, long, w .1)) ∙ w .2)
+
+  last : known b (drives run) ≡ false → r ≡ suc (length (drives run)) → Some
+  last f e =
+      let v : new ≡ suc (length (drives run)) = rw f (row-new b (drives run) f) in
+      (n, omega arith,
+      ap (λ (s : List ℕ). getD s n 0) are ∙ ap (λ (k : ℕ). getD (rows run ++ (new ∷ [])) k 0) (sym long)
+      ∙ getD-append-seam (rows run) new [] 0 ∙ v ∙ sym e)
+
+  onto-more : (t : Bool) → known b (drives run) ≡ t → r ≤ length (drives (blocksIn (suc n) bytes)) → Some
+  onto-more true f k =
+      let m : met (drives run) b ≡ drives run = rw f in
+      before (omega (arith, count, ap length m))
+  onto-more false f k =
+      let m : met (drives run) b ≡ drives run ++ (b ∷ []) = rw f in
+      let l : length (met (drives run) b) ≡ suc (length (drives run)) = ap length m ∙ length-append (drives run) (b ∷ []) ∙ omega arith in
+      ⊎-elim (λ z. before (omega arith)) (λ z. last f (omega (arith, count, l))) (eq-zero-or-pos (r - length (drives run)))
+
+rows-onto : (n : ℕ) (bytes : List ℕ) → Onto n bytes
+unfolding blocksIn drivesFrom
+rows-onto zero bytes r h k = absurd (omega arith)
+rows-onto (suc n) bytes r h k = onto-more n bytes (rows-onto n bytes) r h (known (blockAt bytes n) (drives (blocksIn n bytes))) refl k
+
+-- The blocks of a run's front.
+drop-of-front : (m k : ℕ) (l : List ℕ) → drop m (take (m + k) l) ≡ take k (drop m l)
+drop-of-front zero k l =
+    let e : zero + k ≡ k = omega arith in
+    ap (λ (n : ℕ). take n l) e
+drop-of-front (suc m) k [] = rw (take-nil (suc m + k), drop-nil (suc m), take-nil k)
+drop-of-front (suc m) k (x ∷ l) =
+    let e : suc m + k ≡ suc (m + k) = omega arith in
+    ap (λ (n : ℕ). drop (suc m) (take n (x ∷ l))) e ∙ drop-of-front m k l
+
+blocks-of-front : (i : ℕ) (bytes : List ℕ) → blocksIn i (take (512 * i) bytes) ≡ blocksIn i bytes
+unfolding blocksIn
+blocks-of-front zero bytes = refl
+blocks-of-front (suc i) bytes =
+    let e : 512 * suc i ≡ 512 + 512 * i = omega arith in
+    rw (e, take-take 512 (512 + 512 * i) bytes (omega arith), drop-of-front 512 (512 * i) bytes)
+    (ap (λ (l : List (List ℕ)). take 512 bytes ∷ l) (blocks-of-front i (drop 512 bytes)))
+
+-- What an accepted roll was lent, and what it leaves.
+module _ (bytes room : List ℕ) where
+  abbrev refused : ℕ → Outcome
+  refused number = Roll.outcome (record { number = number; blocks = 0; drives = 0 }) room
+
+  abbrev accepted : Outcome
+  accepted = Roll.outcome (record { number = 0; blocks = length bytes / 512; drives = length (drives (blocks bytes)) }) (written room 0 (rows (blocks bytes)))
+
+  record Fits : Type 0 where
+    whole : length bytes % 512 ≡ 0
+    few : length bytes ≤ 32768
+    entries : length bytes / 512 ≤ length room
+
+  fits : refusalOf bytes (length room) ≡ 0 → Fits
+  unfolding refusalOf
+  fits e =
+      let c = silent
+      ((1 when not (eqb (length bytes % 512) 0)) ∷ (1 when ltb 32768 (length bytes)) ∷ (1 when ltb (length room) (length bytes / 512)) ∷ [])
+      refl e in
+      record {
+        whole = eqb-true _ _ (not-false _ (c .0));
+        few = ltb-false _ _ (c .1 .0);
+        entries = ltb-false _ _ (c .1 .1 .0);
+      }
+
+  roll-is : Fits → roll bytes room ≡ accepted
+  unfolding roll refusalOf
+  roll-is f = rw (eq-eqb _ _ (f .whole), le-ltb _ _ (f .few), le-ltb _ _ (f .entries))
+
+  accepted-fits : roll bytes room .counted .number ≡ 0 → Fits
+  unfolding roll
+  accepted-fits e = fits (not-refused (λ (o : Outcome). o .counted .number) refused accepted (refusalOf bytes (length room)) refl e)
+
+  module _ (f : Fits) where
+    abbrev of : List (List ℕ)
+    of = blocks bytes
+
+    length-of-rows : length (rows of) ≡ length bytes / 512
+    length-of-rows = length-rows of (drives of) ∙ length-blocks (length bytes / 512) bytes
+
+    room-is : roll bytes room .room ≡ written room 0 (rows of)
+    room-is = ap (λ (o : Outcome). o .room) (roll-is f)
+
+    count-is : roll bytes room .counted .drives ≡ length (drives of)
+    count-is = ap (λ (o : Outcome). o .counted .drives) (roll-is f)
+
+    entry-is : (i : ℕ) → i < length bytes / 512 → rowAt bytes room i ≡ getD (rows of) i 0
+    entry-is i h =
+        ap (λ (r : List ℕ). getD r i 0) room-is
+        ∙ read-row room (rows of) i (omega (arith, length-of-rows)) (omega (arith, length-of-rows, f .entries))
+
+    place : (i : ℕ) → i < length bytes / 512 → getD of i [] ≡ blockAt bytes i
+    place i h = block-of (length bytes / 512) i bytes h
+
+    within : (i : ℕ) → i < length bytes / 512 → i < length of
+    within i h = omega (arith, length-blocks (length bytes / 512) bytes)
+
+    row-is : (i : ℕ) → i < length bytes / 512 → rowAt bytes room i ≡ rowIn (drives of) (blockAt bytes i)
+    row-is i h = entry-is i h ∙ row-at of (drives of) i (within i h) ∙ ap (rowIn (drives of)) (place i h)
+
+    is-known : (i : ℕ) → i < length bytes / 512 → known (blockAt bytes i) (drives of) ≡ true
+    is-known i h = ap (λ (b : List ℕ). known b (drives of)) (sym (place i h)) ∙ each-known of i (within i h)
+
+    share : (i j : ℕ) → i < length bytes / 512 → j < length bytes / 512 → (rowAt bytes room i ≡ rowAt bytes room j) ↔ (sameDrive (blockAt bytes i) (blockAt bytes j) ≡ true)
+    share i j hi hj =
+        (λ e. row-means (blockAt bytes i) (blockAt bytes j) (drives of) (is-known i hi) (sym (row-is i hi) ∙ e ∙ row-is j hj),
+        λ e. row-is i hi ∙ row-same (blockAt bytes i) (blockAt bytes j) e (drives of) ∙ sym (row-is j hj))
+
+    first-row : (i : ℕ) → i < length bytes / 512 → ((k : ℕ) → k < i → sameDrive (blockAt bytes k) (blockAt bytes i) ≡ false) → rowAt bytes room i ≡ suc (length (drives (blocksIn i bytes)))
+    first-row i h z =
+        let w = parted i (length bytes / 512) bytes h in
+        let u = unknown (blockAt bytes i) (blocksIn i bytes) (λ k l.
+            let m : k < i = omega (arith, length-blocks i bytes) in
+            ap (λ (b : List ℕ). sameDrive b (blockAt bytes i)) (block-of i k bytes m) ∙ z k m) in
+        row-is i h ∙ ap (λ (l : List (List ℕ)). rowIn (drives l) (blockAt bytes i)) (w .1) ∙ next-row (blocksIn i bytes) (w .0) (blockAt bytes i) u
+
+    later : (k : ℕ) → length bytes / 512 ≤ k → rowAt bytes room k ≡ getD room k 0
+    later k h =
+        let l = length-of-rows in
+        let e : k ≡ length (rows of) + (k - length (rows of)) = omega arith in
+        ap (λ (r : List ℕ). getD r k 0) (room-is ∙ written-front room (rows of) ∙ ap (λ (t : List ℕ). t ++ drop (length (rows of)) room) (take-all (length room) (rows of) (omega (arith, l, f .entries))))
+        ∙ ap (λ (m : ℕ). getD (rows of ++ drop (length (rows of)) room) m 0) e
+        ∙ getD-append-add (rows of) (drop (length (rows of)) room) (k - length (rows of)) 0
+        ∙ getD-drop (length (rows of)) room (k - length (rows of)) 0
+        ∙ ap (λ (m : ℕ). getD room m 0) (sym e)
+
+-- The roll of a run's front, as long as the roll of the whole is accepted.
+count-of-front : (bytes room : List ℕ) → Fits bytes room → (i : ℕ) → i < length bytes / 512 → roll (take (512 * i) bytes) room .counted .drives ≡ length (drives (blocksIn i bytes))
+count-of-front bytes room f i h =
+    let l : length (take (512 * i) bytes) ≡ 512 * i = length-take-le (512 * i) bytes (omega arith) in
+    let d : length (take (512 * i) bytes) / 512 ≡ i = omega (arith, l) in
+    let g : Fits (take (512 * i) bytes) room = record { whole = omega (arith, l); few = omega (arith, l, f .few); entries = omega (arith, d, f .entries) } in
+    count-is (take (512 * i) bytes) room g ∙ ap (λ (n : ℕ). length (drives (blocksIn n (take (512 * i) bytes)))) d ∙ ap (λ (b : List (List ℕ)). length (drives b)) (blocks-of-front i bytes)
+
+pub roll-of-drives : RollOfDrives
+roll-of-drives bytes room e =
+    let f = accepted-fits bytes room e in
+    record {
+      blocks = ap (λ (o : Outcome). o .counted .blocks) (roll-is bytes room f);
+      share-a-row = share bytes room f;
+      by-first-appearance = λ i h z. first-row bytes room f i h z ∙ ap suc (sym (count-of-front bytes room f i h));
+      within-the-count = λ i h.
+          (rw (row-is bytes room f i h) (from-one (drives (blocks bytes)) (blockAt bytes i)),
+          rw (row-is bytes room f i h, count-is bytes room f) (row-within (drives (blocks bytes)) (blockAt bytes i) (is-known bytes room f i h)));
+      each-row-is-a-block's = λ r h k.
+          let w = rows-onto (length bytes / 512) bytes r h (rw (count-is bytes room f) at k) in
+          (w .0, w .1, entry-is bytes room f (w .0) (w .1) ∙ w .2);
+      later-entries = later bytes room f;
+      as-many-entries = ap length (room-is bytes room f) ∙ length-written room 0 (rows (blocks bytes));
+    }

@@ -5,7 +5,7 @@ use mathlib.Core.List.{List}
 use Prim.Native.Nat.{ℕ, _≤_}
 use lib.Dec.{eqb, ltb}
 use lib.ListN.{length, take, drop}
-use borrow.Author.Tests.{eq-eqb, ne-eqb, eqb-true, ltb-false, not-false}
+use borrow.Author.Tests.{eq-eqb, ne-eqb, eqb-true, eqb-false, ltb-false, not-false}
 use Rattle.rules.proofs.First.{silent, neither, first-answers, second-answers}
 use Rattle.sense.specs.Helpers.{Roomy}
 use Rattle.sense.proofs.Sense.{roomy-unless}
@@ -63,6 +63,13 @@ module _ (q : Request) (room sense : ℕ) where
   pub refused-late : earlyRefusal q sense ≡ 0 → refusalOf q room sense ≡ cond (not (passesThrough (isPacket q) (q .command)) && ltb room (toWrite q)) 8 0
   unfolding refusalOf earlyRefusal
   refused-late = second-answers (take 8 (checks q room sense)) (drop 8 (checks q room sense)) refl
+
+  pub accepted-early : refusalOf q room sense ≡ 0 → earlyRefusal q sense ≡ 0
+  accepted-early z = by (eqb (earlyRefusal q sense) 0) refl
+    where
+      by : (t : Bool) → eqb (earlyRefusal q sense) 0 ≡ t → earlyRefusal q sense ≡ 0
+      by true e = eqb-true (earlyRefusal q sense) 0 e
+      by false e = sym (refused-early (eqb-false (earlyRefusal q sense) 0 e)) ∙ z
 
 -- A page that is made of the block has a whole one: there is one or none, and check 6 did not find none.
 module _ (code : ℕ) where

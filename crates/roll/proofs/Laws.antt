@@ -169,7 +169,7 @@ drives-at-most seen (x ∷ run) = by (known x seen) (drives-at-most (met seen x)
     by true h = omega arith
     by false h = omega (arith, length-append seen (x ∷ []))
 
-length-rows : (run s : List (List ℕ)) → length (map (rowIn s) run) ≡ length run
+pub length-rows : (run s : List (List ℕ)) → length (map (rowIn s) run) ≡ length run
 length-rows run s = length-map run (rowIn s)
 
 pub row-at : (run s : List (List ℕ)) (k : ℕ) → k < length run → getD (map (rowIn s) run) k 0 ≡ rowIn s (getD run k [])
@@ -178,7 +178,7 @@ row-at (x ∷ run) s zero h = refl
 row-at (x ∷ run) s (suc k) h = row-at run s k (le-of-suc-le-suc h)
 
 -- A row written is the row read, and one more goes behind the others.
-read-row : (r rs : List ℕ) (j : ℕ) → j < length rs → length rs ≤ length r → getD (written r 0 rs) j 0 ≡ getD rs j 0
+pub read-row : (r rs : List ℕ) (j : ℕ) → j < length rs → length rs ≤ length r → getD (written r 0 rs) j 0 ≡ getD rs j 0
 read-row r rs j h l =
     rw (written-front r rs, take-all (length r) rs l) (List·getD-append rs (drop (length rs) r) 0 j h)
 

@@ -7,7 +7,7 @@ use native.Mathlib.Nat.{eq-zero-or-pos, sub-zero, zero-add, zero-sub, suc-sub-su
 use native.Mathlib.Numerals.{add-one}
 use native.Mathlib.Omega.{arith}
 use lib.ListN.{length, getD, set, take, drop, drop-of-length-le}
-use lib.Seq.{set-out, drop-cons, drop-nil, length-sets, length-take-le}
+use lib.Seq.{set-out, drop-cons, drop-nil, length-sets, length-take-le, take-all, take-append-seam}
 use Rattle.room.specs.Room.{written, Wrote}
 use Rattle.room.specs.Helpers.{fitting}
 
@@ -48,6 +48,10 @@ pub written-front : (r s : List ℕ) → written r 0 s ≡ take (length r) s ++ 
 written-front [] s = written-out [] 0 s (omega arith) ∙ sym (drop-nil (length s))
 written-front (x ∷ r) [] = refl
 written-front (x ∷ r) (b ∷ s) = written-cons b r 0 s ∙ ap (λ (l : List ℕ). b ∷ l) (written-front r s)
+
+-- What was written at the start of a room that holds it is read back there.
+pub front : (room bytes : List ℕ) → length bytes ≤ length room → take (length bytes) (written room 0 bytes) ≡ bytes
+front room bytes h = rw (written-front room bytes, take-all (length room) bytes h) (take-append-seam bytes (drop (length bytes) room))
 
 -- From any place: the room before it, what fits, and the room behind. So all else is untouched.
 pub written-is : (r : List ℕ) (at : ℕ) (s : List ℕ) → written r at s ≡ take at r ++ take (length r - at) s ++ drop (at + length s) r

@@ -1,0 +1,47 @@
+-- Every promise of specs/Promises, proved.
+use mathlib.Core.Path.{_≡_, sym, _∙_}
+use Rattle.demands.specs.Promises.{Settled, OneOutcome, Promises}
+use Rattle.demands.proofs.Refusals.{refusals-change-nothing}
+use Rattle.demands.proofs.Inquiry.{within-allocation, pages-of-inquiry}
+use Rattle.demands.proofs.Order.{direction-from-the-fields, only-the-command-differs, own-flags, completed-with-its-own-fields, none-taken-while-pending, protocol-15-keeps-the-record}
+use Rattle.demands.proofs.Page83.{reads-back, accepted-is-written, pages-of-the-writer}
+use Rattle.demands.proofs.Roll.{roll-of-drives}
+
+settled : {O : Type 0} (outcome : O) → Settled outcome
+settled outcome a b p q = p ∙ sym q
+
+pub one-outcome : OneOutcome
+one-outcome =
+    record {
+      of-inquiry = λ q room sense. settled _;
+      of-served = λ reply room shown count. settled _;
+      of-submit = λ p command registers declared sense. settled _;
+      of-complete = λ p registers sense. settled _;
+      of-write = λ block room. settled _;
+      of-read = λ page. settled _;
+      of-roll = λ bytes room. settled _;
+      of-take = λ held store run. settled _;
+      of-block = λ have store. settled _;
+      of-gather = λ haves stores room. settled _;
+      of-inquiry-from-intake = λ have store command signature texts reply room sense. settled _;
+      of-roll-of-intakes = λ haves stores room rows. settled _;
+    }
+
+pub kept : Promises
+kept =
+    record {
+      one-outcome = one-outcome;
+      refusals-change-nothing = refusals-change-nothing;
+      within-allocation = within-allocation;
+      direction-from-the-fields = direction-from-the-fields;
+      only-the-command-differs = only-the-command-differs;
+      own-flags = own-flags;
+      completed-with-its-own-fields = completed-with-its-own-fields;
+      none-taken-while-pending = none-taken-while-pending;
+      protocol-15-keeps-the-record = protocol-15-keeps-the-record;
+      reads-back = reads-back;
+      accepted-is-written = accepted-is-written;
+      roll-of-drives = roll-of-drives;
+      pages-of-the-writer = pages-of-the-writer;
+      pages-of-inquiry = pages-of-inquiry;
+    }

@@ -1,0 +1,170 @@
+-- Demand 1 of refusals: an entry's outcome is what was accepted, which carries 0, or what its refusal's number alone decides.
+use mathlib.Core.Path.{_≡_, refl, sym, ap, _∙_}
+use mathlib.Core.Bool.{Bool, true, false, cond, not}
+use mathlib.Core.List.{List, [], _∷_}
+use Prim.Native.Nat.{ℕ}
+use lib.Dec.{eqb, ltb}
+use lib.ListN.{length}
+use borrow.Author.Tests.{eq-eqb, eqb-true, not-false}
+use Rattle.rules.specs.First.{_when_}
+use Rattle.rules.proofs.First.{silent}
+use Rattle.page83.specs.Page83 as Page83
+use Rattle.page83.specs.Page83.{write}
+use Rattle.page83_reader.specs.Reader.{namesDrive, tellsTexts, inSixty, read}
+use Rattle.inquiry_checks.specs.Request.{Request, request, isPacket, passesThrough}
+use Rattle.inquiry_checks.specs.Checks as InquiryChecks
+use Rattle.inquiry.specs.Inquiry as Inquiry
+use Rattle.inquiry.specs.Inquiry.{inquiry}
+use Rattle.passthrough_fields.specs.Fields.{protocol}
+use Rattle.passthrough_order.specs.Order.{orderOf}
+use Rattle.passthrough.specs.declared.Pending.{Pending}
+use Rattle.passthrough.specs.Submit as Submit
+use Rattle.passthrough.specs.Submit.{submit}
+use Rattle.passthrough.specs.Complete as Complete
+use Rattle.passthrough.specs.Complete.{complete}
+use Rattle.roll.specs.Roll as Roll
+use Rattle.roll.specs.Roll.{roll}
+use Rattle.intake.specs.declared.Intake.{Intake}
+use Rattle.intake.specs.Intake as Intake
+use Rattle.intake.specs.Intake.{taken, wrongIntake, blockOf, usedBy}
+use Rattle.received.specs.Received as Received
+use Rattle.received.specs.Received.{inquiryOf, gatherOf, rollOf, gathered, wrongRun}
+use Rattle.demands.specs.Promises.{Refused, RefusalsChangeNothing}
+
+-- An outcome that is `accepted`, which carries 0, or that of a refusal. One that carries a number is that number's.
+module _ {O : Type 0} (number : O → ℕ) (refused : ℕ → O) (accepted : O) (refusal : ℕ) where
+  pub by-number : (t : Bool) → number accepted ≡ 0 → number (refused refusal) ≡ refusal → Refused (number (cond t accepted (refused refusal))) → cond t accepted (refused refusal) ≡ refused (number (cond t accepted (refused refusal)))
+  by-number true z n h = absurd (h z)
+  by-number false z n h = ap refused (sym n)
+
+  -- And one that carries 0 was not refused.
+  pub not-refused : number (refused refusal) ≡ refusal → number (cond (eqb refusal 0) accepted (refused refusal)) ≡ 0 → refusal ≡ 0
+  not-refused n e = by (eqb refusal 0) refl e
+    where
+      by : (t : Bool) → eqb refusal 0 ≡ t → number (cond t accepted (refused refusal)) ≡ 0 → refusal ≡ 0
+      by true h z = eqb-true refusal 0 h
+      by false h z = sym n ∙ z
+
+-- Of two that carry 0 either does.
+either-zero : {O : Type 0} (number : O → ℕ) (a b : O) (t : Bool) → number a ≡ 0 → number b ≡ 0 → number (cond t a b) ≡ 0
+either-zero number a b true p q = p
+either-zero number a b false p q = q
+
+abbrev inquiryNumber : Inquiry.Outcome → ℕ
+inquiryNumber o = o .answer .number
+
+of-inquiry : (q : Request) (room sense : List ℕ) → Refused (inquiry q room sense .answer .number) → inquiry q room sense ≡ Inquiry.refused (inquiry q room sense .answer .number) room sense
+unfolding inquiry
+of-inquiry q room sense h =
+    let r = InquiryChecks.refusalOf q (length room) (length sense) in
+    by-number inquiryNumber (λ n. Inquiry.refused n room sense) _ r (eqb r 0)
+    (either-zero inquiryNumber (Inquiry.passed q room sense) (Inquiry.served q room sense) (passesThrough (isPacket q) (q .command)) refl refl) refl h
+
+abbrev submitNumber : Submit.Outcome → ℕ
+submitNumber o = o .submitted .taken .number
+
+of-submit : (p : Pending) (command registers : List ℕ) (declared : ℕ) (sense : List ℕ) → Refused (submit p command registers declared sense .submitted .taken .number) → submit p command registers declared sense ≡ Submit.refused p (submit p command registers declared sense .submitted .taken .number) sense
+unfolding submit
+of-submit p command registers declared sense h =
+    let r = Submit.refusalOf p command registers declared (length sense) in
+    by-number submitNumber (λ n. Submit.refused p n sense) _ r (eqb r 0)
+    (either-zero submitNumber (Submit.reported p registers sense) (Submit.taken (orderOf command declared) sense) (eqb (protocol command) 15) refl refl) refl h
+
+of-complete : (p : Pending) (registers sense : List ℕ) → Refused (complete p registers sense .completed .ended .number) → complete p registers sense ≡ Complete.refused p (complete p registers sense .completed .ended .number) sense
+unfolding complete
+of-complete p registers sense h =
+    let r = Complete.refusalOf p registers (length sense) in
+    by-number (λ (o : Complete.Outcome). o .completed .ended .number) (λ n. Complete.refused p n sense) _ r (eqb r 0) refl refl h
+
+of-write : (block room : List ℕ) → Refused (write block room .written .number) → write block room ≡ Page83.outcome (record { number = write block room .written .number; count = 0 }) room
+unfolding write
+of-write block room h =
+    let r = Page83.refusalOf block (length room) in
+    by-number (λ (o : Page83.Outcome). o .written .number) (λ n. Page83.outcome (record { number = n; count = 0 }) room) _ r (eqb r 0) refl refl h
+
+of-read : (page : List ℕ) → Refused (read page .number) → read page ≡ record { number = 16; form = 0; name = inSixty [] }
+unfolding read
+of-read page h = by (namesDrive page) (tellsTexts page) refl refl
+  where
+    by : (p q : Bool) → namesDrive page ≡ p → tellsTexts page ≡ q → read page ≡ record { number = 16; form = 0; name = inSixty [] }
+    by true q e f = absurd (h (rw e))
+    by false true e f = absurd (h (rw (e, f)))
+    by false false e f = rw (e, f)
+
+of-roll : (bytes room : List ℕ) → Refused (roll bytes room .counted .number) → roll bytes room ≡ Roll.outcome (record { number = roll bytes room .counted .number; blocks = 0; drives = 0 }) room
+unfolding roll
+of-roll bytes room h =
+    let r = Roll.refusalOf bytes (length room) in
+    by-number (λ (o : Roll.Outcome). o .counted .number) (λ n. Roll.outcome (record { number = n; blocks = 0; drives = 0 }) room) _ r (eqb r 0) refl refl h
+
+of-take : (held : Intake) (store run : List ℕ) → Refused (taken held store run .took .number) → taken held store run ≡ Intake.outcome (Intake.answer held 0 (taken held store run .took .number) 0) store
+unfolding taken
+of-take held store run h = by (wrongIntake (held .have) (length store)) h
+  where
+    either : Bool → Intake.Outcome
+    either t = cond t (Intake.outcome (Intake.answer held 0 1 0) store) (Intake.used held store (usedBy (held .have) run))
+
+    by : (t : Bool) → Refused (either t .took .number) → either t ≡ Intake.outcome (Intake.answer held 0 (either t .took .number) 0) store
+    by true h = refl
+    by false h = absurd (h refl)
+
+of-gather : (haves stores room : List ℕ) → Refused (gatherOf haves stores room .gathered .number) → gatherOf haves stores room ≡ Received.gatherOutcome (Received.given (gatherOf haves stores room .gathered .number) 0) room
+unfolding gatherOf
+of-gather haves stores room h =
+    let r = Received.gatherRefusal haves stores (length room) in
+    by-number (λ (o : Received.GatherOutcome). o .gathered .number) (λ n. Received.gatherOutcome (Received.given n 0) room) _ r (eqb r 0) refl refl h
+
+of-inquiry-from-intake : (have : ℕ) (store command signature texts reply room sense : List ℕ) → Refused (inquiryOf have store command signature texts reply room sense .answer .number) → inquiryOf have store command signature texts reply room sense ≡ Inquiry.refused (inquiryOf have store command signature texts reply room sense .answer .number) room sense
+unfolding inquiryOf
+of-inquiry-from-intake have store command signature texts reply room sense h = by (wrongIntake have (length store)) h
+  where
+    q : Request
+    q = request command (blockOf have store) signature texts reply
+
+    by : (t : Bool) → Refused (cond t (Inquiry.refused 1 room sense) (inquiry q room sense) .answer .number) → cond t (Inquiry.refused 1 room sense) (inquiry q room sense) ≡ Inquiry.refused (cond t (Inquiry.refused 1 room sense) (inquiry q room sense) .answer .number) room sense
+    by true h = refl
+    by false h = of-inquiry q room sense h
+
+-- The roll of intakes, where it is not refused, is a roll that is not.
+rolled-zero : (haves stores room rows : List ℕ) → Received.refusalOf haves stores (length room) (length rows) ≡ 0 → Received.rolled (gathered haves stores) room rows .counted .number ≡ 0
+unfolding Received.refusalOf roll
+rolled-zero haves stores room rows e =
+    let c = silent
+    ((1 when wrongRun haves (length stores))
+    ∷ (1 when not (eqb (Roll.refusalOf (gathered haves stores) (length rows)) 0))
+    ∷ (8 when ltb (length room) (length (gathered haves stores)))
+    ∷ [])
+    refl e in
+    rw (not-false (eqb (Roll.refusalOf (gathered haves stores) (length rows)) 0) (c .1 .0))
+
+of-roll-of-intakes : (haves stores room rows : List ℕ) → Refused (rollOf haves stores room rows .counted .number) → rollOf haves stores room rows ≡ Received.outcome (record { number = rollOf haves stores room rows .counted .number; blocks = 0; drives = 0 }) room rows
+unfolding rollOf
+of-roll-of-intakes haves stores room rows h = by (eqb refusal 0) refl h
+  where
+    refusal : ℕ
+    refusal = Received.refusalOf haves stores (length room) (length rows)
+
+    refused : ℕ → Received.Outcome
+    refused n = Received.outcome (record { number = n; blocks = 0; drives = 0 }) room rows
+
+    either : Bool → Received.Outcome
+    either t = cond t (Received.rolled (gathered haves stores) room rows) (refused refusal)
+
+    by : (t : Bool) → eqb refusal 0 ≡ t → Refused (either t .counted .number) → either t ≡ refused (either t .counted .number)
+    by true e h = absurd (h (rolled-zero haves stores room rows (eqb-true refusal 0 e)))
+    by false e h = refl
+
+pub refusals-change-nothing : RefusalsChangeNothing
+refusals-change-nothing =
+    record {
+      of-inquiry = of-inquiry;
+      of-submit = of-submit;
+      of-complete = of-complete;
+      of-write = of-write;
+      of-read = of-read;
+      of-roll = of-roll;
+      of-take = of-take;
+      of-gather = of-gather;
+      of-inquiry-from-intake = of-inquiry-from-intake;
+      of-roll-of-intakes = of-roll-of-intakes;
+    }

@@ -1,0 +1,242 @@
+-- The promises: what the rules say of the three demands, each a statement with a name, in the demands' order. Nothing is proved on
+-- this page; proofs/Kept has a proof of each. An entry's contract equates all that the entry does with the rule that is named here, so
+-- that each promise is one about the entry.
+use mathlib.Core.Path.{_≡_}
+use mathlib.Core.Bool.{Bool, true, false, cond}
+use mathlib.Core.Logic.{_↔_}
+use mathlib.Core.List.{List, [], _∷_, _++_}
+use Prim.Native.Nat.{ℕ, suc, _*_, _/_, _≤_, _<_}
+use lib.ListN.{length, getD, take, set}
+use Rattle.texts.specs.Text.{turned, spaced}
+use Rattle.identify.specs.Block.{serial, model, name}
+use Rattle.identify.specs.Drive.{carriesName, sameDrive}
+use Rattle.page83.specs.Page83 as Page83
+use Rattle.page83.specs.Page83.{write}
+use Rattle.page83_reader.specs.declared.Name.{Name}
+use Rattle.page83_reader.specs.Reader.{inSixty, read}
+use Rattle.inquiry_fields.specs.Fields.{evpd, pageCode, allocation}
+use Rattle.inquiry_checks.specs.Request.{Request, isPacket}
+use Rattle.inquiry.specs.Inquiry as Inquiry
+use Rattle.inquiry.specs.Inquiry.{inquiry, part}
+use Rattle.passthrough_fields.specs.Fields.{long, size, protocol, tDir, ckCond, extend}
+use Rattle.passthrough_order.specs.declared.Order.{Order}
+use Rattle.passthrough_order.specs.Order.{reset, orderOf}
+use Rattle.passthrough.specs.declared.Pending.{Pending}
+use Rattle.passthrough.specs.Record.{empty, nothingPending}
+use Rattle.passthrough.specs.Submit as Submit
+use Rattle.passthrough.specs.Submit.{submit}
+use Rattle.passthrough.specs.Complete as Complete
+use Rattle.passthrough.specs.Complete.{complete, endStatus, endSense, isSet}
+use Rattle.roll.specs.Roll as Roll
+use Rattle.roll.specs.Roll.{roll, blockAt}
+use Rattle.intake.specs.declared.Intake.{Intake}
+use Rattle.intake.specs.Intake as Intake
+use Rattle.intake.specs.Intake.{taken}
+use Rattle.received.specs.Received as Received
+use Rattle.received.specs.Received.{inquiryOf, gatherOf, rollOf}
+
+-- A number that came back is a refusal's.
+abbrev pub Refused : ℕ → Type 0
+Refused number = number ≡ 0 → ⊥
+
+-- ## Every entry
+
+-- An entry leaves no choice: what meets its contract for one input is one outcome.
+abbrev pub Settled : {O : Type 0} → O → Type 0
+Settled {O} outcome = (a b : O) → a ≡ outcome → b ≡ outcome → a ≡ b
+
+pub record OneOutcome : Type 0 where
+  pub of-inquiry : (q : Request) (room sense : List ℕ) → Settled (inquiry q room sense)
+  pub of-served : (reply room : List ℕ) (shown count : ℕ) → Settled (part reply room shown count)
+  pub of-submit : (p : Pending) (command registers : List ℕ) (declared : ℕ) (sense : List ℕ) → Settled (submit p command registers declared sense)
+  pub of-complete : (p : Pending) (registers sense : List ℕ) → Settled (complete p registers sense)
+  pub of-write : (block room : List ℕ) → Settled (write block room)
+  pub of-read : (page : List ℕ) → Settled (read page)
+  pub of-roll : (bytes room : List ℕ) → Settled (roll bytes room)
+  pub of-take : (held : Intake) (store run : List ℕ) → Settled (taken held store run)
+  pub of-block : (have store : ℕ) → Settled (Intake.offered have store)
+  pub of-gather : (haves stores room : List ℕ) → Settled (gatherOf haves stores room)
+  pub of-inquiry-from-intake : (have : ℕ) (store command signature texts reply room sense : List ℕ) → Settled (inquiryOf have store command signature texts reply room sense)
+  pub of-roll-of-intakes : (haves stores room rows : List ℕ) → Settled (rollOf haves stores room rows)
+
+-- ## Demand 1
+
+-- A refusal changes nothing lent but the sense bytes of its row, and hands back what a refusal hands back: the outcome of an entry
+-- that refuses is the one that its number alone decides.
+pub record RefusalsChangeNothing : Type 0 where
+  pub of-inquiry : (q : Request) (room sense : List ℕ) → Refused (inquiry q room sense .answer .number) → inquiry q room sense ≡ Inquiry.refused (inquiry q room sense .answer .number) room sense
+  pub of-submit : (p : Pending) (command registers : List ℕ) (declared : ℕ) (sense : List ℕ) → Refused (submit p command registers declared sense .submitted .taken .number) → submit p command registers declared sense ≡ Submit.refused p (submit p command registers declared sense .submitted .taken .number) sense
+  pub of-complete : (p : Pending) (registers sense : List ℕ) → Refused (complete p registers sense .completed .ended .number) → complete p registers sense ≡ Complete.refused p (complete p registers sense .completed .ended .number) sense
+  pub of-write : (block room : List ℕ) → Refused (write block room .written .number) → write block room ≡ Page83.outcome (record { number = write block room .written .number; count = 0 }) room
+  pub of-read : (page : List ℕ) → Refused (read page .number) → read page ≡ record { number = 16; form = 0; name = inSixty [] }
+  pub of-roll : (bytes room : List ℕ) → Refused (roll bytes room .counted .number) → roll bytes room ≡ Roll.outcome (record { number = roll bytes room .counted .number; blocks = 0; drives = 0 }) room
+  pub of-take : (held : Intake) (store run : List ℕ) → Refused (taken held store run .took .number) → taken held store run ≡ Intake.outcome (Intake.answer held 0 (taken held store run .took .number) 0) store
+  pub of-gather : (haves stores room : List ℕ) → Refused (gatherOf haves stores room .gathered .number) → gatherOf haves stores room ≡ Received.gatherOutcome (Received.given (gatherOf haves stores room .gathered .number) 0) room
+  pub of-inquiry-from-intake : (have : ℕ) (store command signature texts reply room sense : List ℕ) → Refused (inquiryOf have store command signature texts reply room sense .answer .number) → inquiryOf have store command signature texts reply room sense ≡ Inquiry.refused (inquiryOf have store command signature texts reply room sense .answer .number) room sense
+  pub of-roll-of-intakes : (haves stores room rows : List ℕ) → Refused (rollOf haves stores room rows .counted .number) → rollOf haves stores room rows ≡ Received.outcome (record { number = rollOf haves stores room rows .counted .number; blocks = 0; drives = 0 }) room rows
+
+-- No reply passes the allocation length.
+abbrev pub WithinAllocation : Type 0
+WithinAllocation = (q : Request) (room sense : List ℕ) → inquiry q room sense .answer .count ≤ allocation (q .command)
+
+-- ## Demand 2: orders
+
+-- A command that was submitted: the number, the order and the record that came back.
+pub record Submission : Type 0 where
+  pub record-given : Pending
+  pub command : List ℕ
+  pub registers : List ℕ
+  pub declared : ℕ
+  pub sense : List ℕ
+
+abbrev pub outcomeOf : Submission → Submit.Outcome
+outcomeOf s = submit (s .record-given) (s .command) (s .registers) (s .declared) (s .sense)
+
+abbrev pub numberOf : Submission → ℕ
+numberOf s = outcomeOf s .submitted .taken .number
+
+abbrev pub orderFrom : Submission → Order
+orderFrom s = outcomeOf s .submitted .taken .order
+
+-- The direction is never guessed: it hangs on PROTOCOL and T_DIR alone, whatever the record, the ATA command and all else are.
+abbrev pub DirectionFromTheFields : Type 0
+DirectionFromTheFields = (s t : Submission) → numberOf s ≡ 0 → numberOf t ≡ 0 → protocol (s .command) ≡ protocol (t .command) → tDir (s .command) ≡ tDir (t .command) → orderFrom s .direction ≡ orderFrom t .direction
+
+-- The place of the ATA command: byte 14 of the long form, 9 of the short.
+abbrev pub ataCommandAt : List ℕ → ℕ
+ataCommandAt c = cond (long c) 14 9
+
+-- An order with another ATA command, and all else as it was.
+abbrev pub withCommand : ℕ → Order → Order
+withCommand v o =
+    record {
+      length = o .length;
+      features = o .features;
+      count = o .count;
+      «lba_low» = o .«lba_low»;
+      «lba_mid» = o .«lba_mid»;
+      «lba_high» = o .«lba_high»;
+      «quiet_seconds» = o .«quiet_seconds»;
+      «sectors_per_block» = o .«sectors_per_block»;
+      device = o .device;
+      command = v;
+      protocol = o .protocol;
+      «ck_cond» = o .«ck_cond»;
+      extend = o .extend;
+      direction = o .direction;
+    }
+
+-- Two whole commands that differ in the ATA command alone make orders that differ in the field `command` alone; resets, whose
+-- orders hold no ATA command, make the same order.
+abbrev pub OnlyTheCommandDiffers : Type 0
+OnlyTheCommandDiffers = (c : List ℕ) (declared v : ℕ) → size c ≤ length c → orderOf (set c (ataCommandAt c) v) declared ≡ cond (reset (protocol c)) (orderOf c declared) (withCommand v (orderOf c declared))
+
+-- CK_COND and EXTEND of an order are the command's own.
+abbrev pub OwnFlags : Type 0
+OwnFlags = (c : List ℕ) (declared : ℕ) → reset (protocol c) ≡ false → (isSet (orderOf c declared .«ck_cond») ≡ ckCond c) × (isSet (orderOf c declared .extend) ≡ extend c)
+
+-- Completing what an outcome leaves tells the status and the sense data that the order which it answered says, and leaves the empty
+-- record.
+abbrev pub EndsBy : List ℕ → List ℕ → Submit.Outcome → Type 0
+EndsBy left room o =
+    complete (o .submitted .next) left room
+    ≡ Complete.outcome (Complete.answer empty 0 (endStatus (o .submitted .taken .order) left)) (endSense (o .submitted .taken .order) left room)
+
+-- No order is faked: one that was taken is the order that its command makes, and is completed with its own fields, from every state
+-- of the record.
+abbrev pub CompletedWithItsOwnFields : Type 0
+CompletedWithItsOwnFields = (s : Submission) → numberOf s ≡ 0 → (protocol (s .command) ≡ 15 → ⊥) → (left room : List ℕ) → length left ≡ 11 → 22 ≤ length room → (orderFrom s ≡ orderOf (s .command) (s .declared)) × EndsBy left room (outcomeOf s)
+
+-- While an order is pending none is taken.
+abbrev pub NoneTakenWhilePending : Type 0
+NoneTakenWhilePending = (s : Submission) → nothingPending (s .record-given) ≡ false → (protocol (s .command) ≡ 15 → ⊥) → Refused (numberOf s)
+
+-- Protocol 15 leaves the record as it was given, in every state, accepted or refused.
+abbrev pub Protocol15KeepsTheRecord : Type 0
+Protocol15KeepsTheRecord = (s : Submission) → protocol (s .command) ≡ 15 → outcomeOf s .submitted .next ≡ s .record-given
+
+-- ## Demand 2: the reader of page 83h
+
+-- The page that the writer left at the room's start.
+abbrev pub left : Page83.Outcome → List ℕ
+left o = take (o .written .count) (o .room)
+
+-- The name of a block as the reader gives it: the world wide name, or model and serial number with their zero bytes as spaces.
+abbrev pub nameOf : List ℕ → Name
+nameOf block =
+    cond (carriesName block) (record { number = 0; form = 1; name = inSixty (turned (name block)) })
+    (record { number = 0; form = 2; name = inSixty (spaced (turned (model block)) ++ spaced (turned (serial block))) })
+
+-- What the writer made, the reader accepts, and it gives back the name that went in.
+abbrev pub ReadsBack : Type 0
+ReadsBack = (block room : List ℕ) → write block room .written .number ≡ 0 → read (left (write block room)) ≡ nameOf block
+
+-- Every number of a list is a byte.
+pub data Bytes : List ℕ → Type 0 where
+  no-more : Bytes []
+  more : {b : ℕ} {s : List ℕ} → b < 0x100 → Bytes s → Bytes (b ∷ s)
+
+-- And it accepts nothing else: an accepted page is what the writer leaves for some block, in every room that holds it; and where the
+-- page is of bytes, so is the block.
+abbrev pub AcceptedIsWritten : Type 0
+AcceptedIsWritten = (page : List ℕ) → read page .number ≡ 0 → (block : List ℕ) × (Bytes page → Bytes block) × ((room : List ℕ) → length page ≤ length room → (write block room .written .number ≡ 0) × (left (write block room) ≡ page))
+
+-- ## Demand 3
+
+-- The row of block i in the room that a roll leaves.
+abbrev pub rowAt : List ℕ → List ℕ → ℕ → ℕ
+rowAt bytes room i = getD (roll bytes room .room) i 0
+
+-- Of an accepted roll:
+pub record Rolled (bytes room : List ℕ) : Type 0 where
+  -- every block of 512 bytes is counted;
+  pub blocks : roll bytes room .counted .blocks ≡ length bytes / 512
+  -- two blocks share a row exactly when they are the same drive;
+  pub share-a-row : (i j : ℕ) → i < length bytes / 512 → j < length bytes / 512 → (rowAt bytes room i ≡ rowAt bytes room j) ↔ (sameDrive (blockAt bytes i) (blockAt bytes j) ≡ true)
+  -- a drive's first block has the row behind those of the drives before it, so that the first of all has row 1;
+  pub by-first-appearance : (i : ℕ) → i < length bytes / 512 → ((k : ℕ) → k < i → sameDrive (blockAt bytes k) (blockAt bytes i) ≡ false) → rowAt bytes room i ≡ suc (roll (take (512 * i) bytes) room .counted .drives)
+  -- the rows are the numbers from 1 to the drive count, each of them some block's: so the count is that of the different drives;
+  pub within-the-count : (i : ℕ) → i < length bytes / 512 → (1 ≤ rowAt bytes room i) × (rowAt bytes room i ≤ roll bytes room .counted .drives)
+  pub each-row-is-a-block's : (r : ℕ) → 1 ≤ r → r ≤ roll bytes room .counted .drives → (i : ℕ) × (i < length bytes / 512) × (rowAt bytes room i ≡ r)
+  -- entries past the block count are as they were.
+  pub later-entries : (k : ℕ) → length bytes / 512 ≤ k → rowAt bytes room k ≡ getD room k 0
+  pub as-many-entries : length (roll bytes room .room) ≡ length room
+
+abbrev pub RollOfDrives : Type 0
+RollOfDrives = (bytes room : List ℕ) → roll bytes room .counted .number ≡ 0 → Rolled bytes room
+
+-- The pages of two blocks are equal exactly when they are the same drive: as the writer leaves them,
+abbrev pub PagesOfTheWriter : Type 0
+PagesOfTheWriter = (a b room other : List ℕ) → write a room .written .number ≡ 0 → write b other .written .number ≡ 0 → (left (write a room) ≡ left (write b other)) ↔ (sameDrive a b ≡ true)
+
+-- A drive that is no packet drive is asked for its complete page 83h.
+pub record AsksItsName (q : Request) : Type 0 where
+  pub disk : isPacket q ≡ false
+  pub page-asked : evpd (q .command) ≡ true
+  pub page-83h : pageCode (q .command) ≡ 0x83
+  pub complete : 76 ≤ allocation (q .command)
+
+abbrev pub shown : Request → Inquiry.Outcome → List ℕ
+shown q o = part (q .reply) (o .room) (o .answer .shown) (o .answer .count)
+
+-- and as INQUIRY shows them.
+abbrev pub PagesOfInquiry : Type 0
+PagesOfInquiry = (q r : Request) (room sense other-room other-sense : List ℕ) → AsksItsName q → AsksItsName r → inquiry q room sense .answer .number ≡ 0 → inquiry r other-room other-sense .answer .number ≡ 0 → (shown q (inquiry q room sense) ≡ shown r (inquiry r other-room other-sense)) ↔ (sameDrive (q .block) (r .block) ≡ true)
+
+-- ## All of them
+
+pub record Promises : Type 0 where
+  pub one-outcome : OneOutcome
+  pub refusals-change-nothing : RefusalsChangeNothing
+  pub within-allocation : WithinAllocation
+  pub direction-from-the-fields : DirectionFromTheFields
+  pub only-the-command-differs : OnlyTheCommandDiffers
+  pub own-flags : OwnFlags
+  pub completed-with-its-own-fields : CompletedWithItsOwnFields
+  pub none-taken-while-pending : NoneTakenWhilePending
+  pub protocol-15-keeps-the-record : Protocol15KeepsTheRecord
+  pub reads-back : ReadsBack
+  pub accepted-is-written : AcceptedIsWritten
+  pub roll-of-drives : RollOfDrives
+  pub pages-of-the-writer : PagesOfTheWriter
+  pub pages-of-inquiry : PagesOfInquiry
