@@ -1,0 +1,270 @@
+/*
+ * Calls the board as it is told on standard input, and says all that came back: a call a line, an answer a line. A call is the entry
+ * and what is lent, with spaces between; an answer is names and values by turns. Bytes are hexadecimal digits, - where there are none;
+ * lists of numbers have commas. Each piece of memory is as large as was said, and no larger.
+ */
+#include "piongseut.h"
+
+#include <stdio.h>
+#include <stdlib.h>
+#include <string.h>
+
+static char line[1 << 20];
+
+typedef struct {
+    uint8_t *bytes;
+    size_t size;
+} piece;
+
+typedef struct {
+    uint16_t *numbers;
+    size_t count;
+} numbers;
+
+static const char *next_word(void)
+{
+    const char *word = strtok(NULL, " \n");
+    if (word == NULL) {
+        fprintf(stderr, "ask: a call lacks something\n");
+        exit(1);
+    }
+    return word;
+}
+
+static void *memory(size_t size)
+{
+    void *got = malloc(size == 0 ? 1 : size);
+    if (got == NULL)
+        exit(1);
+    return got;
+}
+
+static piece next_piece(void)
+{
+    const char *word = next_word();
+    piece lent = {NULL, strcmp(word, "-") == 0 ? 0 : strlen(word) / 2};
+    lent.bytes = (uint8_t *)memory(lent.size);
+    for (size_t at = 0; at < lent.size; at++) {
+        const char digits[3] = {word[2 * at], word[2 * at + 1], 0};
+        lent.bytes[at] = (uint8_t)strtoul(digits, NULL, 16);
+    }
+    return lent;
+}
+
+static unsigned long next_number(void)
+{
+    return strtoul(next_word(), NULL, 10);
+}
+
+static numbers next_numbers(void)
+{
+    const char *word = next_word();
+    numbers lent = {(uint16_t *)memory(strlen(word) * sizeof(uint16_t)), 0};
+    if (strcmp(word, "-") == 0)
+        return lent;
+    for (char *end; *word != 0; word = *end == ',' ? end + 1 : end)
+        lent.numbers[lent.count++] = (uint16_t)strtoul(word, &end, 10);
+    return lent;
+}
+
+static void say(const char *name, unsigned long value)
+{
+    printf("%s %lu ", name, value);
+}
+
+static void say_bytes(const char *name, const uint8_t *bytes, size_t size)
+{
+    printf("%s %s", name, size == 0 ? "-" : "");
+    for (size_t at = 0; at < size; at++)
+        printf("%02X", bytes[at]);
+    printf(" ");
+}
+
+static void say_piece(const char *name, piece said)
+{
+    say_bytes(name, said.bytes, said.size);
+    free(said.bytes);
+}
+
+static void say_order(const char *whose, piongseut_order order)
+{
+    printf("%s length:%lu;features:%u;count:%u;lba_low:%u;lba_mid:%u;lba_high:%u;quiet_seconds:%u;sectors_per_block:%u;", whose,
+           (unsigned long)order.length, order.features, order.count, order.lba_low, order.lba_mid, order.lba_high,
+           order.quiet_seconds, order.sectors_per_block);
+    printf("device:%u;command:%u;protocol:%u;ck_cond:%u;extend:%u;direction:%u ", order.device, order.command, order.protocol,
+           order.ck_cond, order.extend, order.direction);
+}
+
+/* The record goes to and fro as the bytes that it is made of. */
+static piongseut_pending next_record(void)
+{
+    piongseut_pending record;
+    piece lent = next_piece();
+    if (lent.size != sizeof record)
+        exit(1);
+    memcpy(&record, lent.bytes, sizeof record);
+    free(lent.bytes);
+    return record;
+}
+
+static void say_record(piongseut_pending record)
+{
+    say("state", record.state);
+    say_order("held", record.order);
+    say_bytes("record", (const uint8_t *)&record, sizeof record);
+}
+
+/* The record and the intake that hold nothing. */
+static void empty(void)
+{
+    piongseut_intake intake = piongseut_intake_empty();
+    say_record(piongseut_empty());
+    say("have", intake.have);
+    say("sum", intake.sum);
+}
+
+static void inquiry(void)
+{
+    piece command = next_piece(), block = next_piece(), signature = next_piece(), texts = next_piece(), reply = next_piece();
+    piece room = next_piece(), sense = next_piece();
+    piongseut_inquiry_answer answer =
+        piongseut_inquiry(command.bytes, command.size, block.bytes, block.size, signature.bytes, signature.size, texts.bytes,
+                          texts.size, reply.bytes, reply.size, room.bytes, room.size, sense.bytes, sense.size);
+    say("number", answer.number);
+    say("status", answer.status);
+    say("shown", answer.shown);
+    say("count", answer.count);
+    say_piece("reply", reply);
+    say_piece("room", room);
+    say_piece("sense", sense);
+    free(command.bytes);
+    free(block.bytes);
+    free(signature.bytes);
+    free(texts.bytes);
+}
+
+static void submit(void)
+{
+    piongseut_pending record = next_record();
+    piece command = next_piece(), registers = next_piece();
+    unsigned long declared = next_number();
+    piece sense = next_piece();
+    piongseut_taken taken = piongseut_submit(&record, command.bytes, command.size, registers.bytes, registers.size,
+                                             (uint32_t)declared, sense.bytes, sense.size);
+    say("number", taken.number);
+    say("status", taken.status);
+    say_order("order", taken.order);
+    say_record(record);
+    say_piece("sense", sense);
+    free(command.bytes);
+    free(registers.bytes);
+}
+
+static void complete(void)
+{
+    piongseut_pending record = next_record();
+    piece registers = next_piece(), sense = next_piece();
+    piongseut_ended ended = piongseut_complete(&record, registers.bytes, registers.size, sense.bytes, sense.size);
+    say("number", ended.number);
+    say("status", ended.status);
+    say_record(record);
+    say_piece("sense", sense);
+    free(registers.bytes);
+}
+
+static void write83(void)
+{
+    piece block = next_piece(), room = next_piece();
+    piongseut_written written = piongseut_write_page83(block.bytes, block.size, room.bytes, room.size);
+    say("number", written.number);
+    say("count", written.count);
+    say_piece("room", room);
+    free(block.bytes);
+}
+
+static void read83(void)
+{
+    piece page = next_piece();
+    piongseut_name name = piongseut_read_page83(page.bytes, page.size);
+    say("number", name.number);
+    say("form", name.form);
+    say_bytes("name", name.name, sizeof name.name);
+    free(page.bytes);
+}
+
+static void roll(void)
+{
+    piece blocks = next_piece();
+    numbers rows = next_numbers();
+    piongseut_roll_answer answer = piongseut_roll(blocks.bytes, blocks.size, rows.numbers, rows.count);
+    say("number", answer.number);
+    say("blocks", answer.blocks);
+    say("drives", answer.drives);
+    printf("rows %s", rows.count == 0 ? "-" : "");
+    for (size_t at = 0; at < rows.count; at++)
+        printf("%s%u", at == 0 ? "" : ",", rows.numbers[at]);
+    free(blocks.bytes);
+    free(rows.numbers);
+}
+
+static piongseut_intake next_intake(void)
+{
+    piongseut_intake intake;
+    intake.have = (uint16_t)next_number();
+    intake.sum = (uint16_t)next_number();
+    return intake;
+}
+
+static void take(void)
+{
+    piongseut_intake intake = next_intake();
+    piece store = next_piece(), run = next_piece();
+    piongseut_intake_answer answer = piongseut_intake_take(intake, store.bytes, store.size, run.bytes, run.size);
+    say("number", answer.number);
+    say("used", answer.used);
+    say("complete", answer.complete);
+    say("have", answer.next.have);
+    say("sum", answer.next.sum);
+    say_piece("store", store);
+    free(run.bytes);
+}
+
+static void block(void)
+{
+    piongseut_intake intake = next_intake();
+    piongseut_intake_count offered = piongseut_intake_block(intake, next_number());
+    say("number", offered.number);
+    say("count", offered.count);
+}
+
+static void gather(void)
+{
+    numbers haves = next_numbers();
+    piece stores = next_piece(), room = next_piece();
+    piongseut_intake_count gathered =
+        piongseut_intake_gather(haves.numbers, haves.count, stores.bytes, stores.size, room.bytes, room.size);
+    say("number", gathered.number);
+    say("count", gathered.count);
+    say_piece("room", room);
+    free(haves.numbers);
+    free(stores.bytes);
+}
+
+static const struct {
+    const char *name;
+    void (*call)(void);
+} entries[] = {{"empty", empty},   {"inquiry", inquiry}, {"submit", submit}, {"complete", complete}, {"write83", write83},
+               {"read83", read83}, {"roll", roll},       {"take", take},     {"block", block},       {"gather", gather}};
+
+int main(void)
+{
+    while (fgets(line, sizeof line, stdin) != NULL) {
+        const char *entry = strtok(line, " \n");
+        for (size_t at = 0; entry != NULL && at < sizeof entries / sizeof *entries; at++)
+            if (strcmp(entries[at].name, entry) == 0)
+                entries[at].call();
+        printf("\n");
+        fflush(stdout);
+    }
+    return 0;
+}
