@@ -79,6 +79,7 @@ pages-of-inquiry q r room sense other-room other-sense a b ea eb =
     let za = zero q room sense a ea in
     let zb = zero r other-room other-sense b eb in
     let pa = shown-is q room sense a za in
-    let pb = shown-is r other-room other-sense b zb in
-    (λ e. same-page (q .block) (r .block) (whole q room sense a za) (whole r other-room other-sense b zb) (sym pa ∙ e ∙ pb),
-    λ e. pa ∙ same-drive-same-page (q .block) (r .block) e ∙ sym pb)
+    let pb = shown-is r other-room other-sense b zb in (
+      λ e. same-page (q .block) (r .block) (whole q room sense a za) (whole r other-room other-sense b zb) (sym pa ∙ e ∙ pb),
+      λ e. pa ∙ same-drive-same-page (q .block) (r .block) e ∙ sym pb,
+    )

@@ -267,10 +267,13 @@ accepted-is-made page h = by (namesDrive page) (tellsTexts page) refl refl
 
 pub accepted-is-written : AcceptedIsWritten
 accepted-is-written page h =
-    let w = accepted-is-made page h in
-    (w .0, w .3, λ room l.
-        let f : Fits (w .0) room = record { whole = w .1; enough = rw (w .2) l } in
-        (ap (λ (o : Outcome). o .written .number) (write-is (w .0) room f), left-is (w .0) room f ∙ w .2))
+    let w = accepted-is-made page h in (
+      w .0,
+      w .3,
+      λ room l.
+          let f : Fits (w .0) room = record { whole = w .1; enough = rw (w .2) l } in
+          (ap (λ (o : Outcome). o .written .number) (write-is (w .0) room f), left-is (w .0) room f ∙ w .2),
+    )
 
 -- Texts are equal with their zero bytes as spaces, turned or not.
 one-text : (s t : List ℕ) → (spaced (turned s) ≡ spaced (turned t)) ↔ (spaced s ≡ spaced t)
@@ -307,6 +310,7 @@ module _ (a b : List ℕ) where
 pub pages-of-the-writer : PagesOfTheWriter
 pages-of-the-writer a b room other ea eb =
     let f = fits a room ea in
-    let g = fits b other eb in
-    (λ e. same-page a b (f .whole) (g .whole) (sym (left-is a room f) ∙ e ∙ left-is b other g),
-    λ e. left-is a room f ∙ same-drive-same-page a b e ∙ sym (left-is b other g))
+    let g = fits b other eb in (
+      λ e. same-page a b (f .whole) (g .whole) (sym (left-is a room f) ∙ e ∙ left-is b other g),
+      λ e. left-is a room f ∙ same-drive-same-page a b e ∙ sym (left-is b other g),
+    )

@@ -72,8 +72,8 @@ parted i zero bytes h = absurd (omega arith)
 parted i (suc n) bytes h =
     ⊎-elim (λ z. let e : i ≡ n = omega arith in ([], rw e (blocks-more n bytes)))
     (λ z.
-        let w = parted i n bytes (omega arith) in
-        (w .0 ++ (blockAt bytes n ∷ []), blocks-more n bytes ∙ ap (λ (l : List (List ℕ)). l ++ (blockAt bytes n ∷ [])) (w .1) ∙ append-assoc (blocksIn i bytes) (blockAt bytes i ∷ w .0) (blockAt bytes n ∷ [])))
+    let w = parted i n bytes (omega arith) in
+    (w .0 ++ (blockAt bytes n ∷ []), blocks-more n bytes ∙ ap (λ (l : List (List ℕ)). l ++ (blockAt bytes n ∷ [])) (w .1) ∙ append-assoc (blocksIn i bytes) (blockAt bytes i ∷ w .0) (blockAt bytes n ∷ [])))
     (eq-zero-or-pos (n - i))
 
 -- Every number up to the drives' is the row of a block.
@@ -109,10 +109,12 @@ module _ (n : ℕ) (bytes : List ℕ) (known-so-far : Onto n bytes) (r : ℕ) (h
 
   last : known b (drives run) ≡ false → r ≡ suc (length (drives run)) → Some
   last f e =
-      let v : new ≡ suc (length (drives run)) = rw f (row-new b (drives run) f) in
-      (n, omega arith,
-      ap (λ (s : List ℕ). getD s n 0) are ∙ ap (λ (k : ℕ). getD (rows run ++ (new ∷ [])) k 0) (sym long)
-      ∙ getD-append-seam (rows run) new [] 0 ∙ v ∙ sym e)
+      let v : new ≡ suc (length (drives run)) = rw f (row-new b (drives run) f) in (
+        n,
+        omega arith,
+        ap (λ (s : List ℕ). getD s n 0) are ∙ ap (λ (k : ℕ). getD (rows run ++ (new ∷ [])) k 0) (sym long)
+            ∙ getD-append-seam (rows run) new [] 0 ∙ v ∙ sym e,
+      )
 
   onto-more : (t : Bool) → known b (drives run) ≡ t → r ≤ length (drives (blocksIn (suc n) bytes)) → Some
   onto-more true f k =
@@ -210,16 +212,17 @@ module _ (bytes room : List ℕ) where
     is-known i h = ap (λ (b : List ℕ). known b (drives of)) (sym (place i h)) ∙ each-known of i (within i h)
 
     share : (i j : ℕ) → i < length bytes / 512 → j < length bytes / 512 → (rowAt bytes room i ≡ rowAt bytes room j) ↔ (sameDrive (blockAt bytes i) (blockAt bytes j) ≡ true)
-    share i j hi hj =
-        (λ e. row-means (blockAt bytes i) (blockAt bytes j) (drives of) (is-known i hi) (sym (row-is i hi) ∙ e ∙ row-is j hj),
-        λ e. row-is i hi ∙ row-same (blockAt bytes i) (blockAt bytes j) e (drives of) ∙ sym (row-is j hj))
+    share i j hi hj = (
+      λ e. row-means (blockAt bytes i) (blockAt bytes j) (drives of) (is-known i hi) (sym (row-is i hi) ∙ e ∙ row-is j hj),
+      λ e. row-is i hi ∙ row-same (blockAt bytes i) (blockAt bytes j) e (drives of) ∙ sym (row-is j hj),
+    )
 
     first-row : (i : ℕ) → i < length bytes / 512 → ((k : ℕ) → k < i → sameDrive (blockAt bytes k) (blockAt bytes i) ≡ false) → rowAt bytes room i ≡ suc (length (drives (blocksIn i bytes)))
     first-row i h z =
         let w = parted i (length bytes / 512) bytes h in
         let u = unknown (blockAt bytes i) (blocksIn i bytes) (λ k l.
-            let m : k < i = omega (arith, length-blocks i bytes) in
-            ap (λ (b : List ℕ). sameDrive b (blockAt bytes i)) (block-of i k bytes m) ∙ z k m) in
+        let m : k < i = omega (arith, length-blocks i bytes) in
+        ap (λ (b : List ℕ). sameDrive b (blockAt bytes i)) (block-of i k bytes m) ∙ z k m) in
         row-is i h ∙ ap (λ (l : List (List ℕ)). rowIn (drives l) (blockAt bytes i)) (w .1) ∙ next-row (blocksIn i bytes) (w .0) (blockAt bytes i) u
 
     later : (k : ℕ) → length bytes / 512 ≤ k → rowAt bytes room k ≡ getD room k 0
@@ -247,9 +250,10 @@ roll-of-drives bytes room e =
       blocks = ap (λ (o : Outcome). o .counted .blocks) (roll-is bytes room f);
       share-a-row = share bytes room f;
       by-first-appearance = λ i h z. first-row bytes room f i h z ∙ ap suc (sym (count-of-front bytes room f i h));
-      within-the-count = λ i h.
-          (rw (row-is bytes room f i h) (from-one (drives (blocks bytes)) (blockAt bytes i)),
-          rw (row-is bytes room f i h, count-is bytes room f) (row-within (drives (blocks bytes)) (blockAt bytes i) (is-known bytes room f i h)));
+      within-the-count = λ i h. (
+        rw (row-is bytes room f i h) (from-one (drives (blocks bytes)) (blockAt bytes i)),
+        rw (row-is bytes room f i h, count-is bytes room f) (row-within (drives (blocks bytes)) (blockAt bytes i) (is-known bytes room f i h)),
+      );
       each-row-is-a-block's = λ r h k.
           let w = rows-onto (length bytes / 512) bytes r h (rw (count-is bytes room f) at k) in
           (w .0, w .1, entry-is bytes room f (w .0) (w .1) ∙ w .2);

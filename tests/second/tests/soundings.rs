@@ -174,3 +174,29 @@ fn rollcall_empty_and_refused() {
     assert_eq!(rollcall(&vec![0; 65 * 512]), "refused 1\n");
     assert_eq!(rollcall(&vec![0; 32_769]), "refused 1\n");
 }
+
+/// `testing/sg_sense_test.c` of sg3_utils 1.46, `err6`: a status return descriptor.
+#[test]
+fn published_status_return() {
+    let mut command = [0; 16];
+    command[..3].copy_from_slice(&[0x85, 0x07, 0x20]);
+    let (_, mut record, _) = Pass::new(&command).declared(0).run();
+    let registers = [0x00, 0x11, 0x22, 0x66, 0x33, 0x77, 0x44, 0x88, 0x55, 0x01, 0x02];
+    let (_, sense) = end(&mut record, &registers, 22);
+    let published = [
+        0x00, 0x00, 0x00, 0x0E, 0x09, 0x0C, 0x01, 0x00, 0x11, 0x22, 0x66, 0x33, 0x77, 0x44, 0x88,
+        0x55, 0x01, 0x02,
+    ];
+    assert_eq!(sense[4..], published);
+}
+
+/// `inhex/vpd_dev_id.hex` of sg3_utils 1.46: the first descriptor of a disk's page 83h.
+#[test]
+fn published_name() {
+    let mut block = zero_block();
+    block[216..224].copy_from_slice(&[0x00, 0x50, 0x00, 0xC5, 0x11, 0x30, 0x2B, 0xCB]);
+    Ask::new(&[0x12, 0x01, 0x83, 0x00, 0xFF, 0x00]).block(&block).writes(&[
+        0x00, 0x83, 0x00, 0x0C, 0x01, 0x03, 0x00, 0x08, 0x50, 0x00, 0xC5, 0x00, 0x30, 0x11, 0xCB,
+        0x2B,
+    ]);
+}

@@ -110,9 +110,10 @@ fn real_blocks(folder: &str) -> io::Result<Vec<Vec<u8>>> {
 /// A class of inputs that takes nothing but the board.
 type Inputs = fn(&mut Board);
 
-const CLASSES: [(&str, Inputs); 28] = [
+const CLASSES: [(&str, Inputs); 29] = [
     ("soundings C1 to C13", soundings::numbered),
     ("the other soundings", soundings::others),
+    ("published examples", soundings::published),
     (
         "orders: all fields, both opcodes, pending or not",
         orders::fields,

@@ -52,6 +52,19 @@ pub fn others(board: &mut Board) {
     }
 }
 
+/// Published in the sources of sg3_utils 1.46: the registers of a status
+/// return descriptor, and the name of a disk's page 83h.
+pub fn published(board: &mut Board) {
+    let mut command = vec![0x85, 0x07, 0x20];
+    command.extend([0; 13]);
+    let record = board.call(&lent::submit(&command, 0)).record;
+    let registers = [0x00, 0x11, 0x22, 0x66, 0x33, 0x77, 0x44, 0x88, 0x55, 0x01, 0x02];
+    board.call(&lent::complete(record, 0x02).piece(0, registers.to_vec()));
+    let mut block = lent::zero_block();
+    block[216..224].copy_from_slice(&[0x00, 0x50, 0x00, 0xC5, 0x11, 0x30, 0x2B, 0xCB]);
+    board.call(&lent::inquiry_page(0x83, 255).piece(1, block));
+}
+
 /// Every page of every real drive, its page 83h read back and damaged, and
 /// the rolls of all of them.
 pub fn real_drives(board: &mut Board, blocks: &[Vec<u8>]) {
