@@ -21,7 +21,7 @@ fn wrong_block(block: usize) -> bool
     block != 0
 }
 
-// 1: a lent piece breaks the sizes.
+// 1: a lent piece of a wrong size.
 fn wrong_size(block: &[u8], signature: &[u8], texts: &[u8], sense: usize) -> bool
     ensures { λ r. ⌜ r ≡ wrongSize (now (block .entry)) (now (signature .entry)) (now (texts .entry)) sense ⌝ }
 {
@@ -87,7 +87,7 @@ fn wrong_page(packet: bool, command: &[u8]) -> bool
     false
 }
 
-// 6: no IDENTIFY block, and standard data, 80h or 83h is asked.
+// 6: a page that is made of the block, and no block.
 fn no_block(packet: bool, command: &[u8], block: &[u8]) -> bool
     requires { ⌜ 6 ≤ length (now command) ⌝ }
     ensures { λ r. ⌜ r ≡ (not packet && noBlock (now (command .entry)) (now (block .entry))) ⌝ }
@@ -127,7 +127,7 @@ pub fn passes_through(packet: bool, command: &[u8]) -> bool
     command[2] != 0x89
 }
 
-// 7: page 00h is asked of a packet drive and its own is unusable.
+// 7: a packet drive's page 00h, and its own cannot be used.
 fn no_list(packet: bool, command: &[u8], reply: &[u8]) -> bool
     requires { ⌜ 6 ≤ length (now command) ⌝ }
     ensures { λ r. ⌜ r ≡ noList packet (now (command .entry)) (now (reply .entry)) ⌝ }

@@ -34,13 +34,13 @@ row status key asc ascq = record { status = status; key = key; asc = asc; ascq =
 abbrev pub table : List Row
 table =
     row noStatus 0x00 0x00 0x00
-    -- 1: a lent piece breaks the sizes
+    -- 1: a lent piece of a wrong size
     ∷ row noStatus 0x00 0x00 0x00
-    -- 2: no command bytes, or fewer than the command's size
+    -- 2: an empty command, or one that is too short
     ∷ row checkCondition 0x05 0x24 0x00
-    -- 3: the opcode is not one that this entry serves
+    -- 3: an opcode of another entry
     ∷ row checkCondition 0x05 0x20 0x00
-    -- 4: NACA; for INQUIRY also CMDDT, or a page code with EVPD zero
+    -- 4: NACA; of INQUIRY also CMDDT, or a page code without EVPD
     ∷ row checkCondition 0x05 0x24 0x00
     -- 5: EVPD and a page that is not served
     ∷ row checkCondition 0x05 0x24 0x00
@@ -48,9 +48,9 @@ table =
     ∷ row checkCondition 0x02 0x04 0x00
     -- 7: a packet drive's own page 00h is unusable
     ∷ row checkCondition 0x0B 0x00 0x00
-    -- 8: output room is shorter than the bytes to write
+    -- 8: less room than bytes to write
     ∷ row noStatus 0x00 0x00 0x00
-    -- 9: PROTOCOL is 2, 7, 12, 13 or 14
+    -- 9: a protocol that is not served
     ∷ row checkCondition 0x05 0x24 0x00
     -- 10: an order is pending
     ∷ row busy 0x00 0x00 0x00
@@ -60,7 +60,7 @@ table =
     ∷ row checkCondition 0x05 0x24 0x00
     -- 13: a data protocol with length 0
     ∷ row checkCondition 0x05 0x24 0x00
-    -- 14: length above the host's declared length
+    -- 14: more data than the host declared
     ∷ row checkCondition 0x05 0x24 0x00
     -- 15: completion while nothing is pending
     ∷ row noStatus 0x00 0x00 0x00
