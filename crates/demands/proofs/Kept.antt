@@ -2,6 +2,7 @@
 use mathlib.Core.Path.{_≡_, sym, _∙_}
 use Rattle.demands.specs.Promises.{Settled, OneOutcome, Promises}
 use Rattle.demands.proofs.Refusals.{refusals-change-nothing}
+use Rattle.demands.proofs.Soundings.{soundings-hold}
 use Rattle.demands.proofs.Inquiry.{within-allocation, pages-of-inquiry}
 use Rattle.demands.proofs.Order.{direction-from-the-fields, only-the-command-differs, own-flags, completed-with-its-own-fields, none-taken-while-pending, protocol-15-keeps-the-record}
 use Rattle.demands.proofs.Page83.{reads-back, accepted-is-written, pages-of-the-writer}
@@ -33,6 +34,7 @@ kept =
       one-outcome = one-outcome;
       refusals-change-nothing = refusals-change-nothing;
       within-allocation = within-allocation;
+      soundings-hold = soundings-hold;
       direction-from-the-fields = direction-from-the-fields;
       only-the-command-differs = only-the-command-differs;
       own-flags = own-flags;

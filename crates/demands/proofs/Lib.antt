@@ -1,5 +1,6 @@
 -- The promises kept: `Kept` gathers the proofs, which stand by subject.
 pub mod Refusals
+pub mod Soundings
 pub mod Inquiry
 pub mod Order
 pub mod Page83

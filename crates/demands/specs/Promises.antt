@@ -34,6 +34,7 @@ use Rattle.intake.specs.Intake as Intake
 use Rattle.intake.specs.Intake.{taken}
 use Rattle.received.specs.Received as Received
 use Rattle.received.specs.Received.{inquiryOf, gatherOf, rollOf}
+use Rattle.demands.specs.Soundings.{SoundingsHold}
 
 -- A number that came back is a refusal's.
 abbrev pub Refused : ℕ → Type 0
@@ -78,6 +79,10 @@ pub record RefusalsChangeNothing : Type 0 where
 -- No reply passes the allocation length.
 abbrev pub WithinAllocation : Type 0
 WithinAllocation = (q : Request) (room sense : List ℕ) → inquiry q room sense .answer .count ≤ allocation (q .command)
+
+-- ## Demand 2: worked cases
+
+-- `SoundingsHold` in specs/Soundings: C1 to C13 hold of the rules.
 
 -- ## Demand 2: orders
 
@@ -229,6 +234,7 @@ pub record Promises : Type 0 where
   pub one-outcome : OneOutcome
   pub refusals-change-nothing : RefusalsChangeNothing
   pub within-allocation : WithinAllocation
+  pub soundings-hold : SoundingsHold
   pub direction-from-the-fields : DirectionFromTheFields
   pub only-the-command-differs : OnlyTheCommandDiffers
   pub own-flags : OwnFlags

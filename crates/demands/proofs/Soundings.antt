@@ -1,6 +1,5 @@
 -- Soundings C1 to C13 hold of the rules: one statement over one list of cases.
-use mathlib.Core.Path.{_≡_, refl}
-use mathlib.Core.Bool.{true}
+use mathlib.Core.Path.{refl}
 use Rattle.texts.specs.Text.{turned}
 use Rattle.identify.specs.Drive.{someBit, carriesName, equal}
 use Rattle.sense.specs.Sense.{senseData}
@@ -14,8 +13,8 @@ use Rattle.passthrough_order.specs.Order.{orderOf}
 use Rattle.passthrough_checks.specs.Checks.{refusalOf as submitRefusal}
 use Rattle.passthrough.specs.Submit.{submit}
 use Rattle.passthrough.specs.Complete.{complete, refusalOf as completeRefusal}
-use Rattle.piongseut.specs.Soundings.{soundings, allTrue}
+use Rattle.demands.specs.Soundings.{SoundingsHold}
 
-pub all-hold : allTrue soundings ≡ true
+pub soundings-hold : SoundingsHold
 unfolding turned someBit carriesName equal senseData rowOf refusedSense page83 page inquiry inquiryRefusal lengthOf orderOf submit submitRefusal complete completeRefusal
-all-hold = refl
+soundings-hold = refl

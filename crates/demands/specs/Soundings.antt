@@ -1,4 +1,5 @@
--- Soundings C1 to C13 of document 01: each row an input and everything that 01 says of its outcome, asked of the rules themselves.
+-- Soundings C1 to C13 (RULES 13): each row an input and everything that is said of its outcome, asked of the rules themselves.
+use mathlib.Core.Path.{_≡_}
 use mathlib.Core.Bool.{Bool, true, _&&_}
 use mathlib.Core.List.{List, [], _∷_, _++_}
 use Prim.Native.Nat.{ℕ}
@@ -14,7 +15,7 @@ use Rattle.passthrough.specs.Record.{empty}
 use Rattle.passthrough.specs.Submit.{submit, Outcome as Submission}
 use Rattle.passthrough.specs.Complete.{complete, Outcome as Completion}
 
--- "block 0 above, signature all zero": zero but for bytes 216-223, `00 50 00 C5 34 12 78 56`
+-- The first block of the roll's sample: zero but for its name, in bytes 216 to 223.
 abbrev pub block0 : List ℕ
 block0 = replicate 216 0x00 ++ (0x00 ∷ 0x50 ∷ 0x00 ∷ 0xC5 ∷ 0x34 ∷ 0x12 ∷ 0x78 ∷ 0x56 ∷ []) ++ replicate 288 0x00
 
@@ -39,7 +40,7 @@ shows number status bytes o =
 abbrev pub ask : List ℕ → Outcome
 ask command = inquiry (request command block0 (replicate 20 0x00) (replicate 28 0x00) []) room senseRoom
 
--- "Nothing pending in C6 to C12 at first."
+-- The registers of C12; and a command sent to an empty record.
 abbrev pub registers : List ℕ
 registers = 0x00 ∷ 0x00 ∷ 0xFF ∷ 0x00 ∷ 0x00 ∷ 0x00 ∷ 0x00 ∷ 0x00 ∷ 0x00 ∷ 0x00 ∷ 0x50 ∷ []
 
@@ -86,7 +87,7 @@ ends status bytes o =
 abbrev pub identify : ℕ → ℕ → ℕ → List ℕ
 identify b1 b2 count = 0xA1 ∷ b1 ∷ b2 ∷ 0x00 ∷ count ∷ 0x00 ∷ 0x00 ∷ 0x00 ∷ 0x00 ∷ 0xEC ∷ 0x00 ∷ 0x00 ∷ []
 
--- "C12 `85 06 20`, eleven zero bytes, `E5 00`"
+-- C12's command.
 abbrev pub checkPower : List ℕ
 checkPower = 0x85 ∷ 0x06 ∷ 0x20 ∷ replicate 11 0x00 ++ (0xE5 ∷ 0x00 ∷ [])
 
@@ -118,6 +119,8 @@ soundings =
     ∷ takes 0 0 (send checkPower 0)
     ∷ ends checkCondition (0x72 ∷ 0x01 ∷ 0x00 ∷ 0x1D ∷ 0x00 ∷ 0x00 ∷ 0x00 ∷ 0x0E ∷ 0x09 ∷ 0x0C ∷ 0x00 ∷ 0x00 ∷ 0x00 ∷ 0xFF ∷ 0x00 ∷ 0x00 ∷ 0x00 ∷ 0x00 ∷ 0x00 ∷ 0x00 ∷ 0x00 ∷ 0x50 ∷ [])
     (complete (send checkPower 0 .submitted .next) registers senseRoom)
+    -- EXTEND, count FFFFh in blocks: the longest length that a field can ask for
+    ∷ takes 1 33553920 (send (0x85 ∷ 0x09 ∷ 0x0E ∷ 0x00 ∷ 0x00 ∷ 0xFF ∷ 0xFF ∷ replicate 9 0x00) 33553920)
     -- C13 no command bytes, of either entry
     ∷ shows 2 checkCondition [] (ask [])
     ∷ refuses 2 (send [] 0)
@@ -126,3 +129,6 @@ soundings =
 abbrev pub allTrue : List Bool → Bool
 allTrue [] = true
 allTrue (b ∷ bs) = b && allTrue bs
+
+abbrev pub SoundingsHold : Type 0
+SoundingsHold = allTrue soundings ≡ true

@@ -1,2 +1,0 @@
--- The soundings, proved of the rules.
-pub mod Soundings
