@@ -130,14 +130,22 @@ fn say_page(page: &[u8], count: usize) -> bool {
         && say(b"]\n")
 }
 
-// The name of an intake's block.
-fn say_name(intake: Intake, store: &[u8]) -> bool {
+// The name that a block's page 83h tells.
+fn say_block(block: &[u8]) -> bool {
     let mut page = [0u8; 76];
-    let written = page83::write(intake::block(intake.have, store), &mut page);
+    let written = page83::write(block, &mut page);
     if written.number != 0 {
         return say(b"no block\n");
     }
     say_page(&page, written.count)
+}
+
+// The name of an intake's block, which is there only for an intake that is right.
+fn say_name(intake: Intake, store: &[u8]) -> bool {
+    if intake::wrong(intake, store.len()) {
+        return say(b"refused 1\n");
+    }
+    say_block(intake::block(intake.have, store))
 }
 
 fn complain(text: &[u8]) {

@@ -1,42 +1,20 @@
--- "From an empty intake, however one stream is divided, the stored block, the completion point and the total used are those of a
--- single run: the stream's first 512 bytes in their order, or all of a shorter one."
+-- How a stream is cut into runs does not matter: from empty, all of it in one run leaves the same store, count and sum; no run is
+-- refused, each is used up to the stream's byte 512, and that byte's run is the first to be told complete.
 use mathlib.Core.Path.{_≡_, refl, sym, ap, subst, _∙_}
-use mathlib.Core.Bool.{true, false, cond}
+use mathlib.Core.Bool.{Bool, true, false}
 use mathlib.Core.List.{List, [], _∷_, _++_, append-nil}
 use Prim.Native.Nat.{ℕ, zero, suc, _+_, _-_, _%_, _≤_, _<_}
 use native.Mathlib.Omega.{arith}
+use lib.Dec.{eqb, leb}
 use lib.ListN.{length, take, length-take, length-append, drop-of-length-le}
 use lib.Seq.{take-all, length-take-le}
-use borrow.Author.Tests.{eq-eqb, ne-eqb, le-ltb}
+use borrow.Author.Tests.{eq-eqb, ne-eqb, le-ltb, leb-true, leb-false}
+use Rattle.rules.specs.Bits.{flag}
 use Rattle.room.specs.Room.{written}
 use Rattle.room.proofs.Laws.{length-written, written-append, written-front}
-use Rattle.intake.specs.declared.Intake.{Intake}
-use Rattle.intake.specs.Intake.{intake, empty, wrongIntake, sumOf, usedBy, after, used, taken, blockOf}
+use Rattle.intake.specs.Intake.{intake, wrongIntake, sumOf, usedBy, after, used, taken, blockOf}
+use Rattle.intake.specs.Stream.{Held, begin, step, runs, stream}
 use Rattle.intake.proofs.Laws.{sum-append, take-join}
-
--- An intake with its store, and how many bytes it has used in all.
-pub record Held : Type 0 where
-  pub intake : Intake
-  pub store : List ℕ
-  pub used : ℕ
-
-abbrev pub step : Held → List ℕ → Held
-step held run =
-    let o = taken (held .intake) (held .store) run in
-    record { intake = o .took .next; store = o .store; used = held .used + o .took .used }
-
--- Runs one after another.
-pub runs : Held → List (List ℕ) → Held
-runs held [] = held
-runs held (run ∷ rest) = runs (step held run) rest
-
--- The stream that they divide.
-pub stream : List (List ℕ) → List ℕ
-stream [] = []
-stream (run ∷ rest) = run ++ stream rest
-
-abbrev pub begin : List ℕ → Held
-begin store = record { intake = empty; store = store; used = 0 }
 
 -- What every run leaves true.
 pub record Sound (held : Held) : Type 0 where
@@ -52,10 +30,16 @@ stepped held bytes =
       used = held .used + length bytes;
     }
 
--- A step from there is no refusal.
-step-is : (held : Held) → Sound held → (run : List ℕ) → step held run ≡ stepped held (usedBy (held .intake .have) run)
+-- From there no run is refused.
+not-wrong : (held : Held) → Sound held → wrongIntake (held .intake .have) (length (held .store)) ≡ false
+not-wrong held s = rw (eq-eqb _ _ (s .store), le-ltb _ _ (s .have))
+
+taken-is : (held : Held) → Sound held → (run : List ℕ) → taken (held .intake) (held .store) run ≡ used (held .intake) (held .store) (usedBy (held .intake .have) run)
 unfolding taken
-step-is held s run = rw (eq-eqb _ _ (s .store), le-ltb _ _ (s .have))
+taken-is held s run = rw (not-wrong held s)
+
+step-is : (held : Held) → Sound held → (run : List ℕ) → step held run ≡ stepped held (usedBy (held .intake .have) run)
+step-is held s run = rw (taken-is held s run)
 
 sound-step : (held : Held) → Sound held → (run : List ℕ) → Sound (step held run)
 sound-step held s run =
@@ -116,7 +100,7 @@ module _ (store : List ℕ) (l : length store ≡ 512) where
   pub however-divided : (rs : List (List ℕ)) → runs (begin store) rs ≡ step (begin store) (stream rs)
   however-divided rs = all-are-one (begin store) sound rs
 
-  -- And that single run stores the stream's first 512 bytes in their order, or all of a shorter one, and uses as many.
+  -- That one run keeps the stream up to byte 512 at the store's front, and counts as used what it keeps.
   pub single-run : (s : List ℕ) → step (begin store) s ≡ held (length (take 512 s)) (sumOf (take 512 s) % 256) (written store 0 (take 512 s)) (length (take 512 s))
   single-run s = step-is (begin store) sound s ∙ same (omega arith) (omega arith) refl (omega arith)
 
@@ -144,3 +128,43 @@ module _ (store : List ℕ) (l : length store ≡ 512) where
     no-block-yet h =
         let t : length (take 512 (stream rs)) ≡ length (stream rs) = rw length-take (omega arith) in
         rw (is, t, ne-eqb (length (stream rs)) 512 (λ e. absurd (omega (arith, e, h))))
+
+    sound-end : Sound end
+    sound-end = subst Sound (sym (however-divided rs)) (sound-step (begin store) sound (stream rs))
+
+    -- After any runs the intake is right.
+    pub right-end : wrongIntake (end .intake .have) (length (end .store)) ≡ false
+    right-end = not-wrong end sound-end
+
+-- A stream gives 512 bytes exactly if it has as many.
+full : (s : List ℕ) → eqb (length (take 512 s)) 512 ≡ leb 512 (length s)
+full s = by (leb 512 (length s)) refl
+  where
+    by : (b : Bool) → leb 512 (length s) ≡ b → eqb (length (take 512 s)) 512 ≡ b
+    by true e = eq-eqb _ _ (length-take-le 512 s (leb-true 512 (length s) e))
+    by false e = ne-eqb (length (take 512 s)) 512 (λ k. absurd (omega (arith, leb-false 512 (length s) e, length-take 512 s, k)))
+
+-- What is told of one run, after any number of others or none.
+module _ (store : List ℕ) (l : length store ≡ 512) (before : List (List ℕ)) (run : List ℕ) where
+  abbrev so-far : Held
+  so-far = runs (begin store) before
+
+  told : taken (so-far .intake) (so-far .store) run ≡ used (so-far .intake) (so-far .store) (usedBy (so-far .intake .have) run)
+  told = taken-is so-far (sound-end store l before) run
+
+  has : so-far .intake .have ≡ length (take 512 (stream before))
+  has = ap (λ (k : Held). k .intake .have) (is store l before)
+
+  grown : so-far .intake .have + length (usedBy (so-far .intake .have) run) ≡ length (take 512 (stream before ++ run))
+  grown = rw (has, take-join 512 (stream before) run, length-append)
+
+  pub never-refused : taken (so-far .intake) (so-far .store) run .took .number ≡ 0
+  never-refused = rw told
+
+  -- It is complete from the run that brings byte 512 on.
+  pub complete-from-byte-512 : taken (so-far .intake) (so-far .store) run .took .complete ≡ flag (leb 512 (length (stream before ++ run)))
+  complete-from-byte-512 = rw (told, grown, full (stream before ++ run))
+
+  -- It uses of the run what the stream has up to byte 512, beyond what came before.
+  pub used-of-a-run : taken (so-far .intake) (so-far .store) run .took .used ≡ length (take 512 (stream before ++ run)) - length (take 512 (stream before))
+  used-of-a-run = rw told (omega (arith, has, grown))

@@ -1,8 +1,10 @@
 // Intake: IDENTIFY data off the wire, collected from runs of any length into a lent store of 512 bytes. The rule stands in
-// specs/Intake; proofs/Stream has what it says of a stream that is divided.
+// specs/Intake; specs/Stream and proofs/Stream have what it says of a stream that is divided.
 ghost use mathlib.Core.Path.{_≡_};
+ghost use mathlib.Core.Bool.{false};
 ghost use mathlib.Core.List.{List};
 ghost use Prim.Native.Nat.{_+_, _%_};
+ghost use lib.ListN.{length};
 ghost use Rattle.intake.specs.Intake.{empty as Intake·empty, wrongIntake, sumOf, answer, outcome, taken, blockOf, offered as Intake·offered};
 
 // What an intake has: how many bytes, in the front of its store, and their sum modulo 256.
@@ -112,8 +114,9 @@ pub fn block_size(intake: Intake, store: usize) -> Offered
     }
 }
 
-// The block of an intake: its store where it is complete, and else no bytes.
+// The block of an intake: its store where it is complete, and else no bytes. For callers that have asked `wrong`.
 pub fn block(have: u16, store: &[u8]) -> &[u8]
+    requires { ⌜ wrongIntake have (length (now store)) ≡ false ⌝ }
     ensures { λ r. ⌜ now r ≡ blockOf have (now (store .entry)) ⌝ }
 {
     if have == 512 {

@@ -11,7 +11,7 @@ use borrow.Author.Tests.{eqb-true, lt-ltb, le-ltb, ltb-true, ltb-false, not-fals
 use Rattle.rules.proofs.First.{neither}
 use Rattle.room.specs.Room.{written, Wrote}
 use Rattle.room.proofs.Laws.{written-append, written-front, length-written}
-use Rattle.intake.specs.Intake.{complete, blockOf}
+use Rattle.intake.specs.Intake.{wrongIntake, complete, blockOf}
 use Rattle.roll.specs.Roll as Roll
 use Rattle.received.specs.Received.{claimsTooMuch, gathered, wrongRun, gatherRefusal, gatherOutcome, given, gatherOf, refusalOf, Outcome, outcome, rolled, rollOf}
 use Rattle.received.specs.Helpers.{completeIn}
@@ -123,6 +123,16 @@ front room bytes h = rw (written-front room bytes, take-all (length room) bytes 
 -- A run that is not refused has 512 bytes of store for each intake.
 pub fits : (haves : List ℕ) (stores : ℕ) → wrongRun haves stores ≡ false → stores ≡ 512 * length haves
 fits haves stores e = eqb-true _ _ (not-false _ (neither (not (eqb stores (512 * length haves))) (claimsTooMuch haves) e .0))
+
+-- Over a store of that size, none of its intakes is refused.
+pub each-right : (haves : List ℕ) (stores i : ℕ) → wrongRun haves stores ≡ false → i < length haves → wrongIntake (getD haves i 0) 512 ≡ false
+unfolding claimsTooMuch
+each-right haves stores i e h = among haves i (neither (not (eqb stores (512 * length haves))) (claimsTooMuch haves) e .1) h
+  where
+    among : (haves : List ℕ) (i : ℕ) → claimsTooMuch haves ≡ false → i < length haves → ltb 512 (getD haves i 0) ≡ false
+    among (have ∷ haves) zero e h = neither (ltb 512 have) (claimsTooMuch haves) e .0
+    among (have ∷ haves) (suc i) e h = among haves i (neither (ltb 512 have) (claimsTooMuch haves) e .1) (omega arith)
+    among [] i e h = absurd (omega arith)
 
 -- Gathering, and the roll of a run of intakes, by what is found of it.
 module _ (haves stores room : List ℕ) where

@@ -1,2 +1,3 @@
--- The laws of a run of intakes.
+-- The laws of a run of intakes, and of intakes that streams have filled.
 mod Laws
+pub mod Stream

@@ -1,3 +1,4 @@
 -- What is done with intakes.
 pub mod Received
+pub mod Stream
 pub mod Helpers

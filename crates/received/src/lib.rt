@@ -1,12 +1,12 @@
 // Received: what is done with intakes: INQUIRY from the block of one, and the roll of a run of them. The rules stand in
-// specs/Received; each is the one that exists, over the intake's block.
+// specs/Received; each is the one that exists, over the intake's block. specs/Stream and proofs/Stream have what they say of streams.
 use inquiry::Answer;
 use intake::Intake;
 use roll::Counted;
 ghost use mathlib.Core.Path.{_≡_};
-ghost use mathlib.Core.Bool.{cond};
+ghost use mathlib.Core.Bool.{false, cond};
 ghost use mathlib.Core.List.{List};
-ghost use Prim.Native.Nat.{_*_, _≤_};
+ghost use Prim.Native.Nat.{_≤_};
 ghost use lib.ListN.{length};
 ghost use Rattle.room.specs.Room.{Wrote};
 ghost use Rattle.intake.specs.Intake.{complete};
@@ -100,7 +100,7 @@ fn count_complete(haves: &[u16]) -> usize
 
 // Writes the blocks of the complete intakes one after the other.
 fn put_blocks(haves: &[u16], stores: &[u8], room: &mut [u8])
-    requires { ⌜ length (now stores) ≡ 512 * length (now haves) ⌝ }
+    requires { ⌜ wrongRun (now haves) (length (now stores)) ≡ false ⌝ }
     ensures { λ _. ⌜ Wrote (now (room .entry)) 0 (gathered (now (haves .entry)) (now (stores .entry))) (now (room .exit)) ⌝ }
 {
     let mut at = 0;

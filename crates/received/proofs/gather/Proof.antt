@@ -35,9 +35,7 @@ returns-2 c =
     rw (c .gave2 .ensures) (sym (gather-short (a .haves .now) (a .stores .now) (a .room .now) (sym (c .before .before .before .before .wrong-run .ensures) ∙ c .before .before .before .if1 .left) (rw (c .before .before .count-complete .ensures .0) at (c .before .if2 .taken))))
 
 put-blocks-requires : tie.Need-put-blocks-requires
-put-blocks-requires c κs =
-    let a = c .before .before .before .before .before .before .before .before .args in
-    fits (a .haves .now) (length (a .stores .now)) (sym (c .before .before .before .before .wrong-run .ensures) ∙ c .before .before .before .if1 .left)
+put-blocks-requires c κs = sym (c .before .before .before .before .wrong-run .ensures) ∙ c .before .before .before .if1 .left
 
 gave-requires-3 : tie.Need-gave-requires-3
 gave-requires-3 c κs = search needs

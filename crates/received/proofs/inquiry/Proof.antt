@@ -14,7 +14,7 @@ unfolding inquiryOf rowOf refusedSense
 returns c = rw (sym (c .before .wrong .ensures) ∙ c .if1 .taken)
 
 block-requires : tie.Need-block-requires
-block-requires c κs = search needs
+block-requires c κs = sym (c .before .wrong .ensures) ∙ c .if1 .left
 
 inquiry-requires : tie.Need-inquiry-requires
 inquiry-requires c κs = search needs

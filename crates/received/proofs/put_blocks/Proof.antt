@@ -4,7 +4,7 @@ use Prim.Native.Nat.{_-_, _≤_}
 use native.Mathlib.Omega.{arith}
 use lib.ListN.{length, getD}
 use borrow.Author.Needs.{needs}
-use Rattle.received.proofs.Laws.{Gathering, begin-gathering, gather-on, all-gathered, block-at-most}
+use Rattle.received.proofs.Laws.{Gathering, begin-gathering, gather-on, all-gathered, block-at-most, fits, each-right}
 use Rattle.received.proofs.put_blocks.Statement.{statement}
 use Rattle.received.proofs.put_blocks.Tie as tie
 
@@ -24,19 +24,24 @@ shared-slice-read-block : tie.Need-shared-slice-read-block Inv-loop μ-loop
 shared-slice-read-block c = omega arith
 
 block-at-requires : tie.Need-block-at-requires Inv-loop μ-loop
-block-at-requires c κs = omega arith
+block-at-requires c κs =
+    let a = c .before .before .before .before .before .before .args in
+    omega (arith, fits (a .haves .now) (length (a .stores .now)) (c .before .before .before .before .before .before .pre))
 
 block-requires : tie.Need-block-requires Inv-loop μ-loop
-block-requires c κs = search needs
+block-requires c κs =
+    let a = c .before .before .before .before .before .before .before .args in
+    rw (c .block-at .ensures .1) (each-right (a .haves .now) (length (a .stores .now)) (c .before .before .before .loop .i) (c .before .before .before .before .before .before .before .pre) (c .before .before .loop-test .taken))
 
 put-requires : tie.Need-put-requires Inv-loop μ-loop
 put-requires c κs = search needs
 
 add-at : tie.Need-add-at Inv-loop μ-loop
 add-at c =
-    let have = getD (c .before .before .before .before .before .before .before .before .before .before .before .before .args .haves .now) (c .before .before .before .before .before .before .before .before .loop .i) 0 in
+    let a = c .before .before .before .before .before .before .before .before .before .before .before .before .args in
+    let have = getD (a .haves .now) (c .before .before .before .before .before .before .before .before .loop .i) 0 in
     let block : length (c .before .before .before .before .block .result .now) ≤ 512 = rw (c .before .before .before .before .block .ensures) (block-at-most have (c .before .before .before .before .before .block-at .result .now) (c .before .before .before .before .before .block-at .ensures .1)) in
-    omega (arith, block, c .before .before .before .before .before .before .before .before .loop .inv .small)
+    omega (arith, block, c .before .before .before .before .before .before .before .before .loop .inv .small, fits (a .haves .now) (length (a .stores .now)) (c .before .before .before .before .before .before .before .before .before .before .before .before .pre))
 
 add-i : tie.Need-add-i Inv-loop μ-loop
 add-i c = omega arith

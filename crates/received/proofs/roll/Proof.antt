@@ -56,9 +56,7 @@ returns-4 c =
     rw (c .refused4 .ensures) (sym (roll-short (a .haves .now) (a .stores .now) (a .room .now) (a .rows .now) (sym (c .before .before .before .before .before .before .wrong-run .ensures) ∙ c .before .before .before .before .before .if1 .left) (le-ltb _ _ (rw n at (c .before .before .before .if2 .left))) (le-ltb _ _ (rw n at (c .before .before .if3 .left))) (rw n at (c .before .if4 .taken))))
 
 put-blocks-requires : tie.Need-put-blocks-requires
-put-blocks-requires c κs =
-    let a = c .before .before .before .before .before .before .before .before .before .before .before .args in
-    fits (a .haves .now) (length (a .stores .now)) (sym (c .before .before .before .before .before .before .wrong-run .ensures) ∙ c .before .before .before .before .before .if1 .left)
+put-blocks-requires c κs = sym (c .before .before .before .before .before .before .wrong-run .ensures) ∙ c .before .before .before .before .before .if1 .left
 
 slice-reshare-prefix-roll : tie.Need-slice-reshare-prefix-roll
 slice-reshare-prefix-roll c = search needs
