@@ -17,7 +17,7 @@
 enum { BATCHES = 20, BATCH = 10000, LONG_BATCH = 10 };
 
 typedef struct {
-    __typeof__(piongseut_empty) *empty;
+    __typeof__(piongseut_record_empty) *empty;
     __typeof__(piongseut_inquiry) *inquiry;
     __typeof__(piongseut_submit) *submit;
     __typeof__(piongseut_complete) *complete;
@@ -28,12 +28,12 @@ typedef struct {
     __typeof__(piongseut_intake_gather) *gather;
 } maker;
 
-#define MAKER(by)                                                                                                 \
-    {by##_empty, by##_inquiry, by##_submit, by##_complete, by##_write_page83, by##_read_page83, by##_roll,        \
+#define MAKER(by)                                                                                                  \
+    {by##_record_empty, by##_inquiry, by##_submit, by##_complete, by##_write_page83, by##_read_page83, by##_roll,  \
      by##_intake_take, by##_intake_gather}
 static const maker board = MAKER(piongseut);
 #ifdef PLAIN
-__typeof__(piongseut_empty) plain_empty;
+__typeof__(piongseut_record_empty) plain_record_empty;
 __typeof__(piongseut_inquiry) plain_inquiry;
 __typeof__(piongseut_submit) plain_submit;
 __typeof__(piongseut_complete) plain_complete;
@@ -51,10 +51,10 @@ static const maker *const plain = NULL;
 typedef struct {
     uint64_t said[4];
     piongseut_order order;
-    piongseut_pending record;
-    uint8_t name[60];
-    uint16_t rows[64];
-    _Alignas(64) uint8_t room[64 * 512];
+    piongseut_record record;
+    uint8_t name[PIONGSEUT_NAME_SIZE];
+    uint16_t rows[PIONGSEUT_ROLL_BLOCKS];
+    _Alignas(64) uint8_t room[PIONGSEUT_ROLL_BLOCKS * PIONGSEUT_BLOCK_SIZE];
     _Alignas(64) uint8_t sense[32];
 } left;
 
@@ -78,9 +78,11 @@ struct measured {
  */
 enum { TEXTS = 1, PACKET = 2, HELD = 4, CK_COND = 8, PART = 16 };
 
-static _Alignas(64) uint8_t block[512], blocks[64 * 512], page[76];
-static uint16_t haves[64];
-static uint8_t signature[20], texts[28], reply[7] = {5, 0, 0, 3, 0, 0x80, 0x83}, registers[11];
+static _Alignas(64) uint8_t block[PIONGSEUT_BLOCK_SIZE], blocks[PIONGSEUT_ROLL_BLOCKS * PIONGSEUT_BLOCK_SIZE];
+static _Alignas(64) uint8_t page[PIONGSEUT_PAGE83_TEXT_SIZE];
+static uint16_t haves[PIONGSEUT_ROLL_BLOCKS];
+static uint8_t signature[PIONGSEUT_SIGNATURE_SIZE], texts[PIONGSEUT_TEXTS_SIZE], registers[PIONGSEUT_REGISTERS_SIZE];
+static uint8_t reply[7] = {5, 0, 0, 3, 0, 0x80, 0x83};
 static size_t page_size; /* of the page that was written last; it is the one to be read */
 
 /* ---- The calls ---- */
@@ -94,49 +96,49 @@ static void make_empty(const measured *one, const maker *by, left *to)
 static void make_inquiry(const measured *one, const maker *by, left *to)
 {
     piongseut_inquiry_answer answer;
-    STACK_CALL(answer = by->inquiry(one->command, 6, block, 512, signature, 20, texts, 28, reply, sizeof reply, to->room,
-                                    sizeof to->room, to->sense, sizeof to->sense));
+    STACK_CALL(answer = by->inquiry(one->command, 6, block, sizeof block, signature, sizeof signature, texts, sizeof texts, reply,
+                                    sizeof reply, to->room, sizeof to->room, to->sense, sizeof to->sense));
     SAID(to, answer.number, answer.status, answer.shown, answer.count);
 }
 
 static void make_submit(const measured *one, const maker *by, left *to)
 {
-    piongseut_taken taken;
-    STACK_CALL(taken = by->submit(&to->record, one->command, 16, registers, 11, 512, to->sense, sizeof to->sense));
-    SAID(to, taken.number, taken.status);
-    to->order = taken.order;
+    piongseut_submit_answer answer;
+    STACK_CALL(answer = by->submit(&to->record, one->command, 16, registers, sizeof registers, 512, to->sense, sizeof to->sense));
+    SAID(to, answer.number, answer.status);
+    to->order = answer.order;
 }
 
 static void make_complete(const measured *one, const maker *by, left *to)
 {
-    piongseut_ended ended;
+    piongseut_complete_answer answer;
     (void)one;
-    STACK_CALL(ended = by->complete(&to->record, registers, 11, to->sense, sizeof to->sense));
-    SAID(to, ended.number, ended.status);
+    STACK_CALL(answer = by->complete(&to->record, registers, sizeof registers, to->sense, sizeof to->sense));
+    SAID(to, answer.number, answer.status);
 }
 
 static void make_write(const measured *one, const maker *by, left *to)
 {
-    piongseut_written written;
+    piongseut_write_page83_answer answer;
     (void)one;
-    STACK_CALL(written = by->write(block, 512, to->room, sizeof to->room));
-    SAID(to, written.number, written.count);
+    STACK_CALL(answer = by->write(block, sizeof block, to->room, sizeof to->room));
+    SAID(to, answer.number, answer.count);
 }
 
 static void make_read(const measured *one, const maker *by, left *to)
 {
-    piongseut_name name;
+    piongseut_read_page83_answer answer;
     (void)one;
-    STACK_CALL(name = by->read(page, page_size));
-    SAID(to, name.number, name.form);
-    memcpy(to->name, name.name, sizeof to->name);
+    STACK_CALL(answer = by->read(page, page_size));
+    SAID(to, answer.number, answer.form);
+    memcpy(to->name, answer.name, sizeof to->name);
 }
 
 static void make_roll(const measured *one, const maker *by, left *to)
 {
     piongseut_roll_answer answer;
     (void)one;
-    STACK_CALL(answer = by->roll(blocks, sizeof blocks, to->rows, 64));
+    STACK_CALL(answer = by->roll(blocks, sizeof blocks, to->rows, PIONGSEUT_ROLL_BLOCKS));
     SAID(to, answer.number, answer.blocks, answer.drives);
 }
 
@@ -144,17 +146,17 @@ static void make_roll(const measured *one, const maker *by, left *to)
 static void make_take(const measured *one, const maker *by, left *to)
 {
     const piongseut_intake intake = {one->how & PART ? 256 : 0, 0};
-    piongseut_intake_answer answer;
-    STACK_CALL(answer = by->take(intake, to->room, 512, block, one->bytes));
+    piongseut_intake_take_answer answer;
+    STACK_CALL(answer = by->take(intake, to->room, PIONGSEUT_BLOCK_SIZE, block, one->bytes));
     SAID(to, (uint64_t)answer.next.have << 16 | answer.next.sum, answer.used, answer.number, answer.complete);
 }
 
 static void make_gather(const measured *one, const maker *by, left *to)
 {
-    piongseut_intake_count gathered;
+    piongseut_intake_gather_answer answer;
     (void)one;
-    STACK_CALL(gathered = by->gather(haves, 64, blocks, sizeof blocks, to->room, sizeof to->room));
-    SAID(to, gathered.number, gathered.count);
+    STACK_CALL(answer = by->gather(haves, PIONGSEUT_ROLL_BLOCKS, blocks, sizeof blocks, to->room, sizeof to->room));
+    SAID(to, answer.number, answer.count);
 }
 
 __attribute__((noinline)) void bare_copy(uint8_t *to, const uint8_t *from, size_t count)
@@ -210,10 +212,10 @@ static const measured calls[] = {
 
 /* ---- Before and after a call ---- */
 
-static piongseut_pending record_for(const measured *one)
+static piongseut_record record_for(const measured *one)
 {
-    piongseut_pending record = {0};
-    record.state = one->how & HELD ? 1 : 0;
+    piongseut_record record = {0};
+    record.state = one->how & HELD ? PIONGSEUT_STATE_ORDER : PIONGSEUT_STATE_NOTHING;
     record.order.ck_cond = one->how & CK_COND ? 1 : 0;
     return record;
 }
@@ -224,11 +226,12 @@ static void prepare(const measured *one, left *to)
     static const uint8_t name[8] = {0x00, 0x50, 0x00, 0xC5, 0x34, 0x12, 0x78, 0x56}, none[8];
     memcpy(block + 216, one->how & TEXTS ? none : name, 8);
     memcpy(signature + 5, one->how & PACKET ? "\x14\xEB" : "\0", 2);
-    for (unsigned i = 0; i < 64; i++) {
-        memcpy(blocks + 512 * i, block, 512);
-        blocks[512 * i + 21] = (uint8_t)(i + 1);
-        blocks[512 * i + 222] = one->how & TEXTS ? 0 : (uint8_t)(i + 1);
-        haves[i] = 512;
+    for (unsigned i = 0; i < PIONGSEUT_ROLL_BLOCKS; i++) {
+        uint8_t *its = blocks + PIONGSEUT_BLOCK_SIZE * i;
+        memcpy(its, block, sizeof block);
+        its[21] = (uint8_t)(i + 1);
+        its[222] = one->how & TEXTS ? 0 : (uint8_t)(i + 1);
+        haves[i] = PIONGSEUT_BLOCK_SIZE;
     }
     memset(to, 0, sizeof *to);
     to->record = record_for(one);
@@ -270,7 +273,7 @@ static double now(void)
 /* Nanoseconds a call. The record is put back before each, or only the first order would be taken. */
 static double batch(const measured *one, make *make, const maker *by, left *to)
 {
-    const piongseut_pending record = record_for(one);
+    const piongseut_record record = record_for(one);
     const int size = one->make == make_roll || one->make == make_gather ? LONG_BATCH : BATCH;
     double start = now();
     for (int i = 0; i < size; i++) {
@@ -312,7 +315,7 @@ int main(int words, char **word)
     }
     fclose(file);
     memset(texts, ' ', sizeof texts);
-    registers[10] = 0x50;
+    registers[PIONGSEUT_REGISTER_STATUS] = 0x50;
     for (size_t i = 0; i < sizeof calls / sizeof *calls; i++) {
         (strcmp(word[1], "count") == 0 ? count : take_time)(&calls[i]);
         if (calls[i].make != make_write) continue;

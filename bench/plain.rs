@@ -436,7 +436,7 @@ fn gather(haves: &[u16], stores: &[u8], room: &mut [u8]) -> Result<usize, u8> {
 use std::slice::{from_raw_parts as lent, from_raw_parts_mut as lent_mut};
 
 #[no_mangle]
-pub extern "C" fn plain_empty() -> Pending {
+pub extern "C" fn plain_record_empty() -> Pending {
     Pending::default()
 }
 

@@ -1,14 +1,28 @@
 /*
- * Piongseut: the bridge board between SATA drives and SCSI hosts, as a C library (x86-64, libpiongseut.a).
+ * Piongseut: the bridge board between SATA drives and SCSI hosts, as a C library: libpiongseut.a, for x86-64 and System V.
  *
- * Every function is proved to do what is said here, for every input of every size; none has a precondition. A pointer and
- * the number behind it are one lent piece of memory: the function reads it, and where it is not const it may write it, and it
- * keeps no pointer when it returns. Pieces that are lent to one call must not overlap. A piece of size 0 may have any pointer
- * that is not null. The functions hold no state of their own, allocate nothing, lock nothing and always return, so they may
- * run in an interrupt; the code may use the red zone below the stack pointer, so firmware whose interrupts share the stack of
- * what they interrupt has to skip those 128 bytes. Stack, with the return address and the arguments that go by the stack:
- * piongseut_inquiry 200 bytes, piongseut_submit 184, piongseut_complete 112, piongseut_intake_gather 96, every other function 64
- * or less (measured: docs/PERFORMANCE.md).
+ * Every function is proved to do what is said here, for every value and every size; on values there is no precondition. A pointer
+ * and the number behind it are one lent piece of memory: the function reads it, and where it is not const it may write it, and it
+ * keeps no pointer when it returns. Of pointers it needs this:
+ *  - None is null. For an empty piece pass any other pointer, with size 0: each pointer is taken for a reference, which is never
+ *    null, so that the compiler may build on it, and nothing is proved of a null one, of whatever size.
+ *  - All of the piece is there, to be read, and to be written where it is not const.
+ *  - Pieces that are lent to one call do not overlap.
+ *  - A record, and numbers of 16 bits (rows, and what intakes have), are aligned as their types ask, to 4 and 2 bytes. Bytes may
+ *    stand anywhere.
+ *
+ * The functions hold no state of their own, allocate nothing, lock nothing and always return, so an interrupt handler may call them
+ * if it sees to this:
+ *  - The code uses the SSE registers (about one instruction in six names an xmm register; none names an x87, MMX or AVX register).
+ *    A handler has to save the SSE state before a call and put it back after it, or run where kernel or firmware does.
+ *  - The archive has one symbol open. Needed of the host: memset.
+ *    A handler has to be linked with one that leaves alone what the handler does not save: many use AVX registers. The figure below
+ *    is with one that takes no stack but its return address.
+ *  - The code keeps values in the red zone, the 128 bytes below the stack pointer: where interrupts share the stack of what they
+ *    interrupt, a handler that may interrupt a call has to skip them.
+ *  - The stack pointer is a multiple of 16 at a call, as always in C: a handler that is not entered as a C function aligns it.
+ *  - Stack, with the return address and the arguments that go by the stack: piongseut_inquiry 200 bytes, piongseut_submit 184,
+ *    piongseut_complete 112, piongseut_intake_gather 96, every other function 64 or less (measured: docs/PERFORMANCE.md).
  *
  * Bytes stand in SCSI's order: two-byte lengths high byte first, IDENTIFY words as the drive sends them.
  */
@@ -22,6 +36,22 @@
 extern "C" {
 #endif
 
+/* The version of this interface, as text and as a number with a byte for each part. */
+#define PIONGSEUT_VERSION_MAJOR 4
+#define PIONGSEUT_VERSION_MINOR 0
+#define PIONGSEUT_VERSION_PATCH 0
+#define PIONGSEUT_VERSION_STRING "4.0.0"
+#define PIONGSEUT_VERSION (PIONGSEUT_VERSION_MAJOR * 0x10000 + PIONGSEUT_VERSION_MINOR * 0x100 + PIONGSEUT_VERSION_PATCH)
+
+/* The archive lays its structs out in these sizes, which a compiler for something else than x86-64 may not share. */
+#if defined(__cplusplus) && __cplusplus >= 201103L
+#define PIONGSEUT_HAS_SIZE(type, size) static_assert(sizeof(type) == (size), #type " is not laid out as in the archive");
+#elif !defined(__cplusplus) && defined(__STDC_VERSION__) && __STDC_VERSION__ >= 201112L
+#define PIONGSEUT_HAS_SIZE(type, size) _Static_assert(sizeof(type) == (size), #type " is not laid out as in the archive");
+#else
+#define PIONGSEUT_HAS_SIZE(type, size)
+#endif
+
 /* Status, as SCSI numbers it; NONE where a call gives no status. */
 #define PIONGSEUT_GOOD 0x00
 #define PIONGSEUT_CHECK_CONDITION 0x02
@@ -29,38 +59,72 @@ extern "C" {
 #define PIONGSEUT_NONE 0xFF
 
 /*
- * Refusal numbers. 0 is no refusal. A refusal changes nothing that was lent, but for the sense room where "sense" is said: its
- * first eight bytes then are 72h, key, ASC, ASCQ, 00 00 00 00.
- *
- *  no.  given when                                                            status   key ASC ASCQ
- *   1   a lent piece has a wrong size (said at each function)                 none     -
- *   2   no command bytes, or fewer than the command's size                    02h      sense 05 24 00
- *   3   an opcode that the function does not serve                            02h      sense 05 20 00
- *   4   NACA; for INQUIRY also CMDDT, or a page code without EVPD             02h      sense 05 24 00
- *   5   EVPD and a page that is not 00h, 80h, 83h, 89h                        02h      sense 05 24 00
- *   6   no IDENTIFY block, and standard data, 80h or 83h is asked             02h      sense 02 04 00
- *   7   page 00h is asked of a packet drive and its own is unusable           02h      sense 0B 00 00
- *   8   the output room is shorter than the bytes to write                    none     -
- *   9   PROTOCOL is 2, 7, 12, 13 or 14                                        02h      sense 05 24 00
- *  10   an order is pending, and PROTOCOL is not 15                           08h      -
- *  11   T_LENGTH does not fit the protocol                                    02h      sense 05 24 00
- *  12   T_DIR does not fit the protocol                                       02h      sense 05 24 00
- *  13   a data protocol with length 0                                         02h      sense 05 24 00
- *  14   a length above the host's declared length                             02h      sense 05 24 00
- *  15   completion while nothing is pending                                   none     -
- *  16   a page 83h that the writer cannot make                                none     -
- *
- * They are checked in this order: 1, no command bytes (2), 3, too few command bytes (2), then 4 upward.
+ * Refusal numbers, each with its status, key, ASC and ASCQ if it has them, and when it is given. A refusal changes nothing that was
+ * lent, but for the sense room where there is a key: its first eight bytes then are 72h, key, ASC, ASCQ, 00 00 00 00. They are
+ * checked in this order: 1, no command bytes (2), 3, too few command bytes (2), then 4 upward.
  */
+#define PIONGSEUT_ACCEPTED 0                 /*                no refusal; each function says the status */
+#define PIONGSEUT_REFUSED_SIZE 1             /* none           a lent piece has a wrong size (said at each function) */
+#define PIONGSEUT_REFUSED_SHORT 2            /* 02h, 05 24 00  no command bytes, or fewer than the command's size */
+#define PIONGSEUT_REFUSED_OPCODE 3           /* 02h, 05 20 00  an opcode that the function does not serve */
+#define PIONGSEUT_REFUSED_FIELD 4            /* 02h, 05 24 00  NACA; for INQUIRY also CMDDT, or a page code without EVPD */
+#define PIONGSEUT_REFUSED_PAGE 5             /* 02h, 05 24 00  EVPD and a page that is not 00h, 80h, 83h, 89h */
+#define PIONGSEUT_REFUSED_NO_BLOCK 6         /* 02h, 02 04 00  no IDENTIFY block, and standard data, 80h or 83h is asked */
+#define PIONGSEUT_REFUSED_UNUSABLE 7         /* 02h, 0B 00 00  page 00h is asked of a packet drive and its own is unusable */
+#define PIONGSEUT_REFUSED_ROOM 8             /* none           the output room is shorter than the bytes to write */
+#define PIONGSEUT_REFUSED_PROTOCOL 9         /* 02h, 05 24 00  PROTOCOL is 2, 7, 12, 13 or 14 */
+#define PIONGSEUT_REFUSED_PENDING 10         /* 08h            an order is pending, and PROTOCOL is not 15 */
+#define PIONGSEUT_REFUSED_T_LENGTH 11        /* 02h, 05 24 00  T_LENGTH does not fit the protocol */
+#define PIONGSEUT_REFUSED_T_DIR 12           /* 02h, 05 24 00  T_DIR does not fit the protocol */
+#define PIONGSEUT_REFUSED_LENGTH_ZERO 13     /* 02h, 05 24 00  a data protocol with length 0 */
+#define PIONGSEUT_REFUSED_ABOVE_DECLARED 14  /* 02h, 05 24 00  a length above the host's declared length */
+#define PIONGSEUT_REFUSED_NOTHING_PENDING 15 /* none           completion while nothing is pending */
+#define PIONGSEUT_REFUSED_NOT_A_PAGE 16      /* none           a page 83h that the writer cannot make */
+
+/* Sizes of what is lent, in bytes; of sense room the least. */
+#define PIONGSEUT_BLOCK_SIZE 512 /* an IDENTIFY block, and the store of an intake */
+#define PIONGSEUT_SIGNATURE_SIZE 20
+#define PIONGSEUT_TEXTS_SIZE 28
+#define PIONGSEUT_REGISTERS_SIZE 11
+#define PIONGSEUT_SENSE_SIZE 22
+
+/* Bytes of sense data that a refusal leaves; completion and PROTOCOL 15 leave PIONGSEUT_SENSE_SIZE of them. */
+#define PIONGSEUT_REFUSAL_SENSE_SIZE 8
+
+/* Sizes of pages, in bytes. Output room for page 89h is enough for every INQUIRY. */
+#define PIONGSEUT_STANDARD_SIZE 36
+#define PIONGSEUT_PAGE00_SIZE 8 /* of a drive that is no packet drive */
+#define PIONGSEUT_PAGE80_SIZE 24
+#define PIONGSEUT_PAGE83_WWN_SIZE 16
+#define PIONGSEUT_PAGE83_TEXT_SIZE 76
+#define PIONGSEUT_PAGE89_SIZE 572
+
+/* Places of the drive's registers in the bytes that are lent. */
+#define PIONGSEUT_REGISTER_ERROR 0
+#define PIONGSEUT_REGISTER_COUNT_HIGH 1
+#define PIONGSEUT_REGISTER_COUNT_LOW 2
+#define PIONGSEUT_REGISTER_LBA_LOW_HIGH 3
+#define PIONGSEUT_REGISTER_LBA_LOW_LOW 4
+#define PIONGSEUT_REGISTER_LBA_MID_HIGH 5
+#define PIONGSEUT_REGISTER_LBA_MID_LOW 6
+#define PIONGSEUT_REGISTER_LBA_HIGH_HIGH 7
+#define PIONGSEUT_REGISTER_LBA_HIGH_LOW 8
+#define PIONGSEUT_REGISTER_DEVICE 9
+#define PIONGSEUT_REGISTER_STATUS 10
 
 /* ---- INQUIRY ---- */
+
+/* Whose first bytes are shown: those of the drive's own reply, or of the room. */
+#define PIONGSEUT_SHOWN_REPLY 0
+#define PIONGSEUT_SHOWN_ROOM 1
 
 typedef struct {
     uint8_t number; /* refusal number, 0 if none */
     uint8_t status;
-    uint8_t shown; /* 0: the first `count` bytes of the drive's own reply; 1: of the room */
-    size_t count;
+    uint8_t shown; /* PIONGSEUT_SHOWN_... */
+    size_t count;  /* how many bytes are shown */
 } piongseut_inquiry_answer;
+PIONGSEUT_HAS_SIZE(piongseut_inquiry_answer, 16)
 
 /*
  * Answers an INQUIRY command (12h).
@@ -83,6 +147,24 @@ piongseut_inquiry_answer piongseut_inquiry(const uint8_t *command, size_t comman
 
 /* ---- ATA PASS-THROUGH (12) and (16) ---- */
 
+/* What a drive does with an order, by SAT's names: the values of PROTOCOL that are served. */
+#define PIONGSEUT_PROTOCOL_ATA_HARDWARE_RESET 0
+#define PIONGSEUT_PROTOCOL_SRST 1
+#define PIONGSEUT_PROTOCOL_NON_DATA 3
+#define PIONGSEUT_PROTOCOL_PIO_DATA_IN 4
+#define PIONGSEUT_PROTOCOL_PIO_DATA_OUT 5
+#define PIONGSEUT_PROTOCOL_DMA 6
+#define PIONGSEUT_PROTOCOL_EXECUTE_DEVICE_DIAGNOSTIC 8
+#define PIONGSEUT_PROTOCOL_DEVICE_RESET 9
+#define PIONGSEUT_PROTOCOL_UDMA_DATA_IN 10
+#define PIONGSEUT_PROTOCOL_UDMA_DATA_OUT 11
+#define PIONGSEUT_PROTOCOL_RETURN_RESPONSE_INFORMATION 15 /* makes no order */
+
+/* Which way an order's data go. */
+#define PIONGSEUT_DIRECTION_NONE 0
+#define PIONGSEUT_DIRECTION_FROM_DRIVE 1
+#define PIONGSEUT_DIRECTION_TO_DRIVE 2
+
 /* An order for the drive. There is no padding in it: two orders are equal if memcmp says so. */
 typedef struct {
     uint32_t length;             /* of the data, in bytes */
@@ -95,41 +177,49 @@ typedef struct {
     uint16_t sectors_per_block;  /* 2^MULTIPLE_COUNT */
     uint8_t device;
     uint8_t command;
-    uint8_t protocol;
+    uint8_t protocol;            /* PIONGSEUT_PROTOCOL_... */
     uint8_t ck_cond;             /* 0 or 1 */
     uint8_t extend;              /* 0 or 1 */
-    uint8_t direction;           /* 0 none, 1 from the drive, 2 to the drive */
+    uint8_t direction;           /* PIONGSEUT_DIRECTION_... */
 } piongseut_order;
+PIONGSEUT_HAS_SIZE(piongseut_order, 24)
+
+/* States of a record: it holds nothing, or an order. */
+#define PIONGSEUT_STATE_NOTHING 0
+#define PIONGSEUT_STATE_ORDER 1
 
 /*
- * The pending record: one order at most. The caller keeps it and lends it to each call; begin with piongseut_empty(). Every
- * byte pattern is a valid record: state 0 holds nothing, any other state an order.
+ * The pending record: one order at most. The caller keeps it and lends it to each call; begin with piongseut_record_empty(). Every
+ * byte pattern is a valid record: one with any other state than these two holds an order.
  */
 typedef struct {
     uint32_t state;
     piongseut_order order;
-} piongseut_pending;
+} piongseut_record;
+PIONGSEUT_HAS_SIZE(piongseut_record, 28)
 
 typedef struct {
     uint8_t number; /* refusal number, 0 if none */
     uint8_t status; /* NONE for an order that was taken: its status comes with its completion */
     piongseut_order order; /* the order to carry out; all zero where none was taken */
-} piongseut_taken;
+} piongseut_submit_answer;
+PIONGSEUT_HAS_SIZE(piongseut_submit_answer, 28)
 
 typedef struct {
     uint8_t number;
     uint8_t status;
-} piongseut_ended;
+} piongseut_complete_answer;
+PIONGSEUT_HAS_SIZE(piongseut_complete_answer, 2)
 
 /* A record that holds nothing. */
-piongseut_pending piongseut_empty(void);
+piongseut_record piongseut_record_empty(void);
 
 /*
  * Submits an ATA PASS-THROUGH command (A1h with 12 bytes, 85h with 16).
  *
- * Lent to read: the command bytes; the drive's registers as they are now, 11 bytes (error, count high, count low, LBA low
- * high/low, LBA mid high/low, LBA high high/low, device, status), which PROTOCOL 15 reports. `declared` is the host's own
- * length of the data, in bytes. Lent to write: the record, and sense room of at least 22 bytes.
+ * Lent to read: the command bytes; the drive's registers as they are now, 11 bytes (PIONGSEUT_REGISTER_... names their places),
+ * which PROTOCOL 15 reports. `declared` is the host's own length of the data, in bytes. Lent to write: the record, and sense room
+ * of at least 22 bytes.
  * Back: the order to carry out, which the record now holds; or for PROTOCOL 15 number 0, CHECK CONDITION with 22 sense bytes, no
  * order, and the record as it was.
  * Refusals: 1 (registers not of 11 bytes, sense room below 22), 2, 3, 4, 9 to 14. A refusal leaves the record as it was.
@@ -137,11 +227,11 @@ piongseut_pending piongseut_empty(void);
  * On packet (MMC) drives the opcode A1h is BLANK. This function is lent no signature and takes A1h for ATA PASS-THROUGH (12):
  * whoever calls it has to send a packet drive's A1h to the drive instead.
  */
-piongseut_taken piongseut_submit(piongseut_pending *record,
-                                 const uint8_t *command, size_t command_size,
-                                 const uint8_t *registers, size_t registers_size,
-                                 uint32_t declared,
-                                 uint8_t *sense, size_t sense_size);
+piongseut_submit_answer piongseut_submit(piongseut_record *record,
+                                         const uint8_t *command, size_t command_size,
+                                         const uint8_t *registers, size_t registers_size,
+                                         uint32_t declared,
+                                         uint8_t *sense, size_t sense_size);
 
 /*
  * Ends the order that the record holds, with the registers that the drive left (11 bytes, as above), and empties the record.
@@ -150,37 +240,52 @@ piongseut_taken piongseut_submit(piongseut_pending *record,
  * else GOOD with the sense room untouched.
  * Refusals: 1 (sizes as above), 15. A refusal leaves the record as it was.
  */
-piongseut_ended piongseut_complete(piongseut_pending *record,
-                                   const uint8_t *registers, size_t registers_size,
-                                   uint8_t *sense, size_t sense_size);
+piongseut_complete_answer piongseut_complete(piongseut_record *record,
+                                             const uint8_t *registers, size_t registers_size,
+                                             uint8_t *sense, size_t sense_size);
 
 /* ---- Page 83h, which names a drive ---- */
 
+/* Forms of a name: none, where refused; a world wide name; model and serial number. And the sizes of what these are made of. */
+#define PIONGSEUT_FORM_REFUSED 0
+#define PIONGSEUT_FORM_WWN 1
+#define PIONGSEUT_FORM_TEXT 2
+#define PIONGSEUT_WWN_SIZE 8
+#define PIONGSEUT_MODEL_SIZE 40
+#define PIONGSEUT_SERIAL_SIZE 20
+#define PIONGSEUT_NAME_SIZE 60
+
 typedef struct {
     uint8_t number;
-    size_t count; /* bytes written: 16 or 76 */
-} piongseut_written;
+    size_t count; /* bytes written: 16 for a world wide name, 76 for model and serial number */
+} piongseut_write_page83_answer;
+PIONGSEUT_HAS_SIZE(piongseut_write_page83_answer, 16)
 
 /* Writes the page 83h of an IDENTIFY block. Refusals: 1 (a block not of 512 bytes), 8. */
-piongseut_written piongseut_write_page83(const uint8_t *block, size_t block_size,
-                                         uint8_t *room, size_t room_size);
+piongseut_write_page83_answer piongseut_write_page83(const uint8_t *block, size_t block_size,
+                                                     uint8_t *room, size_t room_size);
 
 typedef struct {
     uint8_t number;
-    uint8_t form;     /* 1: a world wide name of 8 bytes; 2: model (40) and serial number (20); 0 where refused */
-    uint8_t name[60]; /* the name's bytes, and zeros behind them */
-} piongseut_name;
+    uint8_t form;                      /* PIONGSEUT_FORM_... */
+    uint8_t name[PIONGSEUT_NAME_SIZE]; /* the name's bytes, a serial number behind its model, and zeros behind them */
+} piongseut_read_page83_answer;
+PIONGSEUT_HAS_SIZE(piongseut_read_page83_answer, 62)
 
 /* Reads one complete page 83h, and nothing after it. Refusal 16 for every page that the writer cannot make. */
-piongseut_name piongseut_read_page83(const uint8_t *page, size_t page_size);
+piongseut_read_page83_answer piongseut_read_page83(const uint8_t *page, size_t page_size);
 
 /* ---- The roll ---- */
+
+/* The most blocks of a roll. */
+#define PIONGSEUT_ROLL_BLOCKS 64
 
 typedef struct {
     uint8_t number;
     uint16_t blocks;
     uint16_t drives;
 } piongseut_roll_answer;
+PIONGSEUT_HAS_SIZE(piongseut_roll_answer, 6)
 
 /*
  * The roll of up to 64 IDENTIFY blocks of 512 bytes that stand one after the other in `blocks`. Lent to write: room for a row
@@ -201,13 +306,15 @@ typedef struct {
     uint16_t have; /* bytes that it has; more than 512 is refused */
     uint16_t sum;  /* their sum modulo 256, counted on from the sum that was handed in */
 } piongseut_intake;
+PIONGSEUT_HAS_SIZE(piongseut_intake, 4)
 
 typedef struct {
     piongseut_intake next; /* the intake afterwards: the one handed in, where refused */
     uint16_t used;         /* how many bytes of the run it took, from the run's start */
     uint8_t number;        /* refusal number, 0 if none */
     uint8_t complete;      /* 1: it has all 512 bytes */
-} piongseut_intake_answer;
+} piongseut_intake_take_answer;
+PIONGSEUT_HAS_SIZE(piongseut_intake_take_answer, 8)
 
 /* An intake that has nothing. */
 piongseut_intake piongseut_intake_empty(void);
@@ -217,21 +324,28 @@ piongseut_intake piongseut_intake_empty(void);
  * bytes go to are written. A complete intake uses nothing more.
  * Refusal 1: a store not of 512 bytes; an intake that claims more than 512. It changes nothing.
  */
-piongseut_intake_answer piongseut_intake_take(piongseut_intake intake,
-                                              uint8_t *store, size_t store_size,
-                                              const uint8_t *run, size_t run_size);
+piongseut_intake_take_answer piongseut_intake_take(piongseut_intake intake,
+                                                   uint8_t *store, size_t store_size,
+                                                   const uint8_t *run, size_t run_size);
 
 typedef struct {
     uint8_t number; /* refusal number, 0 if none */
-    size_t count;   /* bytes, from the front */
-} piongseut_intake_count;
+    size_t count;   /* bytes of the store, from its front */
+} piongseut_intake_block_answer;
+PIONGSEUT_HAS_SIZE(piongseut_intake_block_answer, 16)
 
 /*
  * How many bytes of its store are an intake's block: all 512 where it is complete, and else 0. Lend the store's first `count` bytes
  * as the block to piongseut_inquiry or piongseut_write_page83.
  * Refusal 1: a store not of 512 bytes; an intake that claims more than 512.
  */
-piongseut_intake_count piongseut_intake_block(piongseut_intake intake, size_t store_size);
+piongseut_intake_block_answer piongseut_intake_block(piongseut_intake intake, size_t store_size);
+
+typedef struct {
+    uint8_t number; /* refusal number, 0 if none */
+    size_t count;   /* bytes of the room, from its front */
+} piongseut_intake_gather_answer;
+PIONGSEUT_HAS_SIZE(piongseut_intake_gather_answer, 16)
 
 /*
  * Gathers the blocks of a run of intakes, for piongseut_roll: the stores of those that are complete, in their order. Lent to read:
@@ -240,9 +354,11 @@ piongseut_intake_count piongseut_intake_block(piongseut_intake intake, size_t st
  * Back: how many bytes of blocks stand in the room. Lend the first `count` bytes to piongseut_roll.
  * Refusals: 1 (stores of another size than 512 bytes an intake; an intake that claims more than 512), 8 (room below the blocks).
  */
-piongseut_intake_count piongseut_intake_gather(const uint16_t *haves, size_t intake_count,
-                                               const uint8_t *stores, size_t stores_size,
-                                               uint8_t *room, size_t room_size);
+piongseut_intake_gather_answer piongseut_intake_gather(const uint16_t *haves, size_t intake_count,
+                                                       const uint8_t *stores, size_t stores_size,
+                                                       uint8_t *room, size_t room_size);
+
+#undef PIONGSEUT_HAS_SIZE
 
 #ifdef __cplusplus
 }

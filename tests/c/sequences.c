@@ -9,14 +9,14 @@
 #include <stdlib.h>
 #include <string.h>
 
-enum { FILL = 0xA5, SENSE = 24 };
+enum { FILL = 0xA5, SENSE = PIONGSEUT_SENSE_SIZE + 2, REGISTERS_AT = PIONGSEUT_SENSE_SIZE - PIONGSEUT_REGISTERS_SIZE };
 
 /* The model's record: whether an order is pending, and which. */
 static int pending;
 static piongseut_order held;
 
 static uint64_t seed = 20;
-static unsigned seen[16], taken_orders, reports, completions[3], resets;
+static unsigned seen[PIONGSEUT_REFUSED_NOT_A_PAGE], taken_orders, reports, completions[3], resets;
 
 /* xorshift64: the same run on every machine. */
 static unsigned roll(unsigned below)
@@ -29,7 +29,7 @@ static unsigned roll(unsigned below)
 
 static void put_sense(uint8_t *sense, uint8_t key, uint8_t asc, uint8_t ascq)
 {
-    memset(sense, 0, 8);
+    memset(sense, 0, PIONGSEUT_REFUSAL_SENSE_SIZE);
     sense[0] = 0x72;
     sense[1] = key;
     sense[2] = asc;
@@ -44,9 +44,50 @@ static void put_registers(uint8_t *sense, uint8_t key, uint8_t ascq, uint8_t ext
     sense[8] = 0x09;
     sense[9] = 0x0C;
     sense[10] = extend;
-    memcpy(sense + 11, registers, 11);
-    for (int upper = 12; upper <= 18 && !extend; upper += 2) sense[upper] = 0;
+    uint8_t *shown = sense + REGISTERS_AT;
+    memcpy(shown, registers, PIONGSEUT_REGISTERS_SIZE);
+    if (extend) return;
+    shown[PIONGSEUT_REGISTER_COUNT_HIGH] = 0;
+    shown[PIONGSEUT_REGISTER_LBA_LOW_HIGH] = 0;
+    shown[PIONGSEUT_REGISTER_LBA_MID_HIGH] = 0;
+    shown[PIONGSEUT_REGISTER_LBA_HIGH_HIGH] = 0;
 }
+
+/* ---- PROTOCOL ---- */
+
+static uint8_t protocol_of(const uint8_t *command)
+{
+    return command[1] >> 1 & 15;
+}
+
+static int resets_drive(unsigned protocol)
+{
+    return protocol == PIONGSEUT_PROTOCOL_ATA_HARDWARE_RESET || protocol == PIONGSEUT_PROTOCOL_SRST;
+}
+
+static int moves_no_data(unsigned protocol)
+{
+    return protocol == PIONGSEUT_PROTOCOL_NON_DATA || protocol == PIONGSEUT_PROTOCOL_EXECUTE_DEVICE_DIAGNOSTIC ||
+           protocol == PIONGSEUT_PROTOCOL_DEVICE_RESET;
+}
+
+static int only_from_drive(unsigned protocol)
+{
+    return protocol == PIONGSEUT_PROTOCOL_PIO_DATA_IN || protocol == PIONGSEUT_PROTOCOL_UDMA_DATA_IN;
+}
+
+static int only_to_drive(unsigned protocol)
+{
+    return protocol == PIONGSEUT_PROTOCOL_PIO_DATA_OUT || protocol == PIONGSEUT_PROTOCOL_UDMA_DATA_OUT;
+}
+
+static int served(unsigned protocol)
+{
+    return resets_drive(protocol) || moves_no_data(protocol) || only_from_drive(protocol) || only_to_drive(protocol) ||
+           protocol == PIONGSEUT_PROTOCOL_DMA || protocol == PIONGSEUT_PROTOCOL_RETURN_RESPONSE_INFORMATION;
+}
+
+/* ---- The model ---- */
 
 static uint16_t wide(const uint8_t *command, int at, int extend)
 {
@@ -58,10 +99,10 @@ static piongseut_order order_of(const uint8_t *command, uint32_t declared)
 {
     piongseut_order order;
     memset(&order, 0, sizeof order);
-    order.protocol = command[1] >> 1 & 15;
+    order.protocol = protocol_of(command);
     order.quiet_seconds = (uint16_t)((2 << (command[2] >> 6)) - 2);
     order.sectors_per_block = 1;
-    if (order.protocol < 2) return order;
+    if (resets_drive(order.protocol)) return order;
     const uint8_t extend = command[1] & 1, field = command[2] & 3;
     order.extend = extend;
     order.sectors_per_block = (uint16_t)(1 << (command[1] >> 5));
@@ -75,38 +116,44 @@ static piongseut_order order_of(const uint8_t *command, uint32_t declared)
     order.command = command[14];
     if (field == 3) order.length = declared;
     else if (field != 0) order.length = (field == 1 ? order.features : order.count) * (command[2] & 4 ? 512u : 1u);
-    if (field != 0) order.direction = command[2] & 8 ? 1 : 2;
+    if (field != 0) order.direction = command[2] & 8 ? PIONGSEUT_DIRECTION_FROM_DRIVE : PIONGSEUT_DIRECTION_TO_DRIVE;
     return order;
 }
 
 /* The refusal's number of a 16-byte command. */
 static uint8_t refusal(const uint8_t *command, uint32_t declared)
 {
-    const unsigned protocol = command[1] >> 1 & 15, field = command[2] & 3, from_drive = command[2] >> 3 & 1;
-    if (command[15] & 4) return 4;
-    if (protocol == 2 || protocol == 7 || (12 <= protocol && protocol <= 14)) return 9;
-    if (protocol == 15) return 0;
-    if (pending) return 10;
-    if (protocol < 2) return 0;
-    const int data = !(protocol == 3 || protocol == 8 || protocol == 9);
-    if (data != (field != 0)) return 11;
-    if (!data) return 0;
-    if ((protocol == 4 || protocol == 10) && !from_drive) return 12;
-    if ((protocol == 5 || protocol == 11) && from_drive) return 12;
+    const unsigned protocol = protocol_of(command), field = command[2] & 3, from_drive = command[2] >> 3 & 1;
+    if (command[15] & 4) return PIONGSEUT_REFUSED_FIELD;
+    if (!served(protocol)) return PIONGSEUT_REFUSED_PROTOCOL;
+    if (protocol == PIONGSEUT_PROTOCOL_RETURN_RESPONSE_INFORMATION) return PIONGSEUT_ACCEPTED;
+    if (pending) return PIONGSEUT_REFUSED_PENDING;
+    if (resets_drive(protocol)) return PIONGSEUT_ACCEPTED;
+    if (moves_no_data(protocol) != (field == 0)) return PIONGSEUT_REFUSED_T_LENGTH;
+    if (moves_no_data(protocol)) return PIONGSEUT_ACCEPTED;
+    if (from_drive ? only_to_drive(protocol) : only_from_drive(protocol)) return PIONGSEUT_REFUSED_T_DIR;
     const piongseut_order order = order_of(command, declared);
-    if (order.length == 0) return 13;
-    return order.length > declared ? 14 : 0;
+    if (order.length == 0) return PIONGSEUT_REFUSED_LENGTH_ZERO;
+    return order.length > declared ? PIONGSEUT_REFUSED_ABOVE_DECLARED : PIONGSEUT_ACCEPTED;
 }
 
-static int same_record(const piongseut_pending *record)
+static int same_record(const piongseut_record *record)
 {
-    return (record->state != 0) == pending && (!pending || memcmp(&record->order, &held, sizeof held) == 0);
+    return record->state == (pending ? PIONGSEUT_STATE_ORDER : PIONGSEUT_STATE_NOTHING) &&
+           (!pending || memcmp(&record->order, &held, sizeof held) == 0);
 }
+
+/* ---- The run ---- */
 
 /* A command with each field drawn, most often one that can be taken. */
 static void draw(uint8_t *command)
 {
-    static const uint8_t protocols[8] = {3, 4, 5, 6, 8, 10, 11, 1};
+    static const uint8_t protocols[8] = {
+        PIONGSEUT_PROTOCOL_NON_DATA,     PIONGSEUT_PROTOCOL_PIO_DATA_IN,
+        PIONGSEUT_PROTOCOL_PIO_DATA_OUT, PIONGSEUT_PROTOCOL_DMA,
+        PIONGSEUT_PROTOCOL_SRST,         PIONGSEUT_PROTOCOL_EXECUTE_DEVICE_DIAGNOSTIC,
+        PIONGSEUT_PROTOCOL_UDMA_DATA_IN, PIONGSEUT_PROTOCOL_UDMA_DATA_OUT,
+    };
     for (int at = 0; at < 16; at++) command[at] = (uint8_t)(roll(3) ? roll(256) : 0);
     command[0] = 0x85;
     command[15] = roll(20) ? 0 : 4;
@@ -114,30 +161,32 @@ static void draw(uint8_t *command)
     command[1] = (uint8_t)((command[1] & 0xE1) | protocol << 1);
     if (roll(8) == 0) return;
     command[2] &= 0xF4;
-    if (protocol != 3 && protocol != 8 && protocol != 9) command[2] |= (uint8_t)(1 + roll(3));
-    if (protocol == 4 || protocol == 10) command[2] |= 8;
-    if (protocol == 5 || protocol == 11) command[2] &= 0xF7;
+    if (!moves_no_data(protocol)) command[2] |= (uint8_t)(1 + roll(3));
+    if (only_from_drive(protocol)) command[2] |= 8;
+    if (only_to_drive(protocol)) command[2] &= 0xF7;
 }
 
-static int submission(piongseut_pending *record, const uint8_t *registers)
+static int submission(piongseut_record *record, const uint8_t *registers)
 {
     uint8_t command[16], sense[SENSE], wanted[SENSE];
     const uint32_t declared = roll(4) ? 0x02000000 : roll(1024);
     draw(command);
     memset(sense, FILL, SENSE);
     memset(wanted, FILL, SENSE);
-    const piongseut_pending before = *record;
+    const piongseut_record before = *record;
     const uint8_t number = refusal(command, declared);
-    const piongseut_taken got = piongseut_submit(record, command, 16, registers, 11, declared, sense, SENSE);
+    const piongseut_submit_answer got =
+        piongseut_submit(record, command, sizeof command, registers, PIONGSEUT_REGISTERS_SIZE, declared, sense, SENSE);
     piongseut_order order;
     memset(&order, 0, sizeof order);
-    uint8_t status = number == 10 ? PIONGSEUT_BUSY : PIONGSEUT_CHECK_CONDITION;
+    uint8_t status = number == PIONGSEUT_REFUSED_PENDING ? PIONGSEUT_BUSY : PIONGSEUT_CHECK_CONDITION;
     seen[number]++;
-    if (number != 0 && number != 10) put_sense(wanted, 0x05, 0x24, 0x00);
-    if (number == 0 && (command[1] >> 1 & 15) == 15) {
+    if (number != PIONGSEUT_ACCEPTED) {
+        if (status == PIONGSEUT_CHECK_CONDITION) put_sense(wanted, 0x05, 0x24, 0x00);
+    } else if (protocol_of(command) == PIONGSEUT_PROTOCOL_RETURN_RESPONSE_INFORMATION) {
         put_registers(wanted, 0x01, 0x1D, 0, registers);
         reports++;
-    } else if (number == 0) {
+    } else {
         status = PIONGSEUT_NONE;
         order = held = order_of(command, declared);
         pending = 1;
@@ -148,17 +197,17 @@ static int submission(piongseut_pending *record, const uint8_t *registers)
            memcmp(sense, wanted, SENSE) == 0 && same_record(record);
 }
 
-static int completion(piongseut_pending *record, const uint8_t *registers)
+static int completion(piongseut_record *record, const uint8_t *registers)
 {
     uint8_t sense[SENSE], wanted[SENSE], status = PIONGSEUT_GOOD;
     memset(sense, FILL, SENSE);
     memset(wanted, FILL, SENSE);
-    const piongseut_ended got = piongseut_complete(record, registers, 11, sense, SENSE);
-    const uint8_t number = pending ? 0 : 15;
+    const piongseut_complete_answer got = piongseut_complete(record, registers, PIONGSEUT_REGISTERS_SIZE, sense, SENSE);
+    const uint8_t number = pending ? PIONGSEUT_ACCEPTED : PIONGSEUT_REFUSED_NOTHING_PENDING;
     if (!pending) {
         status = PIONGSEUT_NONE;
-        seen[15]++;
-    } else if (registers[10] & 0x21) {
+        seen[number]++;
+    } else if (registers[PIONGSEUT_REGISTER_STATUS] & 0x21) {
         status = PIONGSEUT_CHECK_CONDITION;
         put_registers(wanted, 0x0B, 0x00, held.extend, registers);
         completions[0]++;
@@ -176,23 +225,23 @@ static int completion(piongseut_pending *record, const uint8_t *registers)
 /* Nothing that a run is there to show may be missing from it. */
 static int shown_all(void)
 {
-    static const int numbers[8] = {4, 9, 10, 11, 12, 13, 14, 15};
-    for (int at = 0; at < 8; at++)
-        if (seen[numbers[at]] == 0) return 0;
+    if (seen[PIONGSEUT_REFUSED_FIELD] == 0) return 0;
+    for (int number = PIONGSEUT_REFUSED_PROTOCOL; number <= PIONGSEUT_REFUSED_NOTHING_PENDING; number++)
+        if (seen[number] == 0) return 0;
     return taken_orders && reports && resets && completions[0] && completions[1] && completions[2];
 }
 
 int main(int count, char **words)
 {
     const long steps = count > 1 ? atol(words[1]) : 200000;
-    piongseut_pending record = piongseut_empty();
+    piongseut_record record = piongseut_record_empty();
     for (long step = 0; step < steps; step++) {
-        uint8_t registers[11];
-        for (int at = 0; at < 11; at++) registers[at] = (uint8_t)roll(256);
-        if (roll(3)) registers[10] &= 0xDE;
+        uint8_t registers[PIONGSEUT_REGISTERS_SIZE];
+        for (int at = 0; at < PIONGSEUT_REGISTERS_SIZE; at++) registers[at] = (uint8_t)roll(256);
+        if (roll(3)) registers[PIONGSEUT_REGISTER_STATUS] &= 0xDE;
         int agreed = 1;
         if (roll(50) == 0) { /* the host resets the board */
-            record = piongseut_empty();
+            record = piongseut_record_empty();
             pending = 0;
             resets++;
         } else {
@@ -208,6 +257,6 @@ int main(int count, char **words)
         return 1;
     }
     printf("ok %ld steps through one lent record: %u orders, %u reports, %u busy, %u errors, %u resets\n", steps, taken_orders,
-           reports, seen[10], completions[0], resets);
+           reports, seen[PIONGSEUT_REFUSED_PENDING], completions[0], resets);
     return 0;
 }

@@ -7,7 +7,8 @@
 #include <stdio.h>
 #include <string.h>
 
-#define FILL 0xA5
+/* What rooms are filled with, and where sense data has the registers. */
+enum { FILL = 0xA5, REGISTERS_AT = PIONGSEUT_SENSE_SIZE - PIONGSEUT_REGISTERS_SIZE };
 
 static int passed;
 static int failed;
@@ -30,16 +31,16 @@ static int untouched(const uint8_t *bytes, size_t size)
     return 1;
 }
 
-static uint8_t room[600];
-static uint8_t sense[24];
-static uint8_t block[512];
-static uint8_t signature[20];
-static uint8_t texts[28];
+static uint8_t room[PIONGSEUT_PAGE89_SIZE + 28];
+static uint8_t sense[PIONGSEUT_SENSE_SIZE + 2];
+static uint8_t block[PIONGSEUT_BLOCK_SIZE];
+static uint8_t signature[PIONGSEUT_SIGNATURE_SIZE];
+static uint8_t texts[PIONGSEUT_TEXTS_SIZE];
 
 /* Fills the rooms, and makes block and signature those of C1. */
 static void prepare(void)
 {
-    static const uint8_t name[8] = {0x00, 0x50, 0x00, 0xC5, 0x34, 0x12, 0x78, 0x56};
+    static const uint8_t name[PIONGSEUT_WWN_SIZE] = {0x00, 0x50, 0x00, 0xC5, 0x34, 0x12, 0x78, 0x56};
     memset(room, FILL, sizeof room);
     memset(sense, FILL, sizeof sense);
     memset(block, 0, sizeof block);
@@ -48,8 +49,16 @@ static void prepare(void)
     memcpy(block + 216, name, sizeof name);
 }
 
-static const uint8_t c1_page[16] = {0x00, 0x83, 0x00, 0x0C, 0x01, 0x03, 0x00, 0x08,
-                                    0x50, 0x00, 0xC5, 0x00, 0x12, 0x34, 0x56, 0x78};
+static const uint8_t c1_page[PIONGSEUT_PAGE83_WWN_SIZE] = {0x00, 0x83, 0x00, 0x0C, 0x01, 0x03, 0x00, 0x08,
+                                                           0x50, 0x00, 0xC5, 0x00, 0x12, 0x34, 0x56, 0x78};
+
+/* The version's parts, its number and its text say the same. */
+static void version(void)
+{
+    char said[32];
+    snprintf(said, sizeof said, "%d.%d.%d", PIONGSEUT_VERSION_MAJOR, PIONGSEUT_VERSION_MINOR, PIONGSEUT_VERSION_PATCH);
+    check(strcmp(said, PIONGSEUT_VERSION_STRING) == 0 && PIONGSEUT_VERSION == 0x040000, "version 4.0.0");
+}
 
 static piongseut_inquiry_answer ask(const uint8_t *command, size_t size, const uint8_t *reply, size_t reply_size)
 {
@@ -60,12 +69,12 @@ static piongseut_inquiry_answer ask(const uint8_t *command, size_t size, const u
 /* A refused INQUIRY with the sense of the table's row. */
 static int inquiry_refused(const uint8_t *command, size_t size, uint8_t number, uint8_t asc)
 {
-    const uint8_t wanted[8] = {0x72, 0x05, asc, 0x00, 0, 0, 0, 0};
+    const uint8_t wanted[PIONGSEUT_REFUSAL_SENSE_SIZE] = {0x72, 0x05, asc, 0x00, 0, 0, 0, 0};
     prepare();
     piongseut_inquiry_answer answer = ask(command, size, texts, 0);
-    return answer.number == number && answer.status == PIONGSEUT_CHECK_CONDITION && answer.shown == 1 &&
-           answer.count == 0 && memcmp(sense, wanted, 8) == 0 && untouched(sense + 8, sizeof sense - 8) &&
-           untouched(room, sizeof room);
+    return answer.number == number && answer.status == PIONGSEUT_CHECK_CONDITION && answer.shown == PIONGSEUT_SHOWN_ROOM &&
+           answer.count == 0 && memcmp(sense, wanted, sizeof wanted) == 0 &&
+           untouched(sense + sizeof wanted, sizeof sense - sizeof wanted) && untouched(room, sizeof room);
 }
 
 /* C1 with an allocation length: so many bytes of the page, and nothing behind them. */
@@ -74,8 +83,8 @@ static int page83_cut_to(uint8_t allocation, size_t count)
     const uint8_t command[6] = {0x12, 0x01, 0x83, 0x00, allocation, 0x00};
     prepare();
     piongseut_inquiry_answer answer = ask(command, sizeof command, texts, 0);
-    return answer.number == 0 && answer.status == PIONGSEUT_GOOD && answer.shown == 1 && answer.count == count &&
-           memcmp(room, c1_page, count) == 0 && untouched(room + count, sizeof room - count) &&
+    return answer.number == PIONGSEUT_ACCEPTED && answer.status == PIONGSEUT_GOOD && answer.shown == PIONGSEUT_SHOWN_ROOM &&
+           answer.count == count && memcmp(room, c1_page, count) == 0 && untouched(room + count, sizeof room - count) &&
            untouched(sense, sizeof sense);
 }
 
@@ -84,13 +93,29 @@ static void inquiries(void)
     static const uint8_t c4[6] = {0x12, 0x00, 0x80, 0x00, 0xFF, 0x00};
     static const uint8_t c5[6] = {0x12, 0x01, 0xB0, 0x00, 0xFF, 0x00};
     static const uint8_t other[6] = {0x13, 0x00, 0x00, 0x00, 0xFF, 0x00};
-    check(page83_cut_to(0xFF, 16), "C1: page 83h");
+    check(page83_cut_to(0xFF, PIONGSEUT_PAGE83_WWN_SIZE), "C1: page 83h");
     check(page83_cut_to(5, 5), "C2: page 83h cut to 5 bytes");
     check(page83_cut_to(0, 0), "C3: allocation length 0");
-    check(inquiry_refused(c4, sizeof c4, 4, 0x24), "C4: a page code without EVPD, 4");
-    check(inquiry_refused(c5, sizeof c5, 5, 0x24), "C5: page B0h, 5");
-    check(inquiry_refused(c5, 0, 2, 0x24), "C13: no command bytes, 2");
-    check(inquiry_refused(other, sizeof other, 3, 0x20), "another opcode, 3");
+    check(inquiry_refused(c4, sizeof c4, PIONGSEUT_REFUSED_FIELD, 0x24), "C4: a page code without EVPD, 4");
+    check(inquiry_refused(c5, sizeof c5, PIONGSEUT_REFUSED_PAGE, 0x24), "C5: page B0h, 5");
+    check(inquiry_refused(c5, 0, PIONGSEUT_REFUSED_SHORT, 0x24), "C13: no command bytes, 2");
+    check(inquiry_refused(other, sizeof other, PIONGSEUT_REFUSED_OPCODE, 0x20), "another opcode, 3");
+}
+
+/* A page with allocation length enough has its whole size. */
+static void page_size(uint8_t evpd, uint8_t page, size_t size, const char *what)
+{
+    const uint8_t command[6] = {0x12, evpd, page, 0xFF, 0xFF, 0x00};
+    prepare();
+    piongseut_inquiry_answer answer = ask(command, sizeof command, texts, 0);
+    check(answer.number == PIONGSEUT_ACCEPTED && answer.count == size && untouched(room + size, sizeof room - size), what);
+}
+
+static void page_sizes(void)
+{
+    page_size(0, 0x00, PIONGSEUT_STANDARD_SIZE, "the size of standard data");
+    page_size(1, 0x00, PIONGSEUT_PAGE00_SIZE, "the size of page 00h");
+    page_size(1, 0x80, PIONGSEUT_PAGE80_SIZE, "the size of page 80h");
 }
 
 /* Page 89h fills 572 bytes; one byte less is refused with 8. */
@@ -100,12 +125,13 @@ static void page89(void)
     prepare();
     piongseut_inquiry_answer answer =
         piongseut_inquiry(command, sizeof command, block, sizeof block, signature, sizeof signature, texts, sizeof texts,
-                          texts, 0, room, 571, sense, sizeof sense);
-    check(answer.number == 8 && answer.status == PIONGSEUT_NONE && untouched(room, sizeof room), "page 89h, room 571: 8");
+                          texts, 0, room, PIONGSEUT_PAGE89_SIZE - 1, sense, sizeof sense);
+    check(answer.number == PIONGSEUT_REFUSED_ROOM && answer.status == PIONGSEUT_NONE && untouched(room, sizeof room),
+          "page 89h, room 571: 8");
     answer = ask(command, sizeof command, texts, 0);
-    check(answer.number == 0 && answer.count == 572 && room[1] == 0x89 && room[56] == 0xEC &&
+    check(answer.number == PIONGSEUT_ACCEPTED && answer.count == PIONGSEUT_PAGE89_SIZE && room[1] == 0x89 && room[56] == 0xEC &&
               memcmp(room + 8, texts, sizeof texts) == 0 && memcmp(room + 60, block, sizeof block) == 0 &&
-              untouched(room + 572, sizeof room - 572),
+              untouched(room + PIONGSEUT_PAGE89_SIZE, sizeof room - PIONGSEUT_PAGE89_SIZE),
           "page 89h, room enough: 572 bytes");
 }
 
@@ -119,184 +145,276 @@ static void packet_drives(void)
     signature[5] = 0x14;
     signature[6] = 0xEB;
     piongseut_inquiry_answer answer = ask(standard, sizeof standard, reply, sizeof reply);
-    check(answer.number == 0 && answer.shown == 0 && answer.count == 5 && untouched(room, sizeof room),
+    check(answer.number == PIONGSEUT_ACCEPTED && answer.shown == PIONGSEUT_SHOWN_REPLY && answer.count == 5 &&
+              untouched(room, sizeof room),
           "packet drive: its own reply is shown");
     answer = ask(page00, sizeof page00, reply, sizeof reply);
-    check(answer.number == 0 && answer.shown == 1 && answer.count == 8 && memcmp(room, wanted, 8) == 0,
+    check(answer.number == PIONGSEUT_ACCEPTED && answer.shown == PIONGSEUT_SHOWN_ROOM && answer.count == sizeof wanted &&
+              memcmp(room, wanted, sizeof wanted) == 0,
           "packet drive: 89h is put into page 00h");
     answer = ask(page00, sizeof page00, reply, 6);
-    check(answer.number == 7 && sense[1] == 0x0B, "packet drive: an unusable page 00h, 7");
+    check(answer.number == PIONGSEUT_REFUSED_UNUSABLE && sense[1] == 0x0B, "packet drive: an unusable page 00h, 7");
 }
 
-static const uint8_t registers[11] = {0x00, 0x00, 0xFF, 0x00, 0x00, 0x00, 0x00, 0x00, 0x00, 0x00, 0x50};
+static const uint8_t registers[PIONGSEUT_REGISTERS_SIZE] = {0x00, 0x00, 0xFF, 0x00, 0x00, 0x00, 0x00, 0x00, 0x00, 0x00, 0x50};
 
 /* C6 with one byte changed is refused with this number. */
 static void c6_refused(unsigned at, uint8_t value, uint32_t declared, uint8_t number, const char *what)
 {
     uint8_t command[12] = {0xA1, 0x08, 0x0E, 0x00, 0x01, 0x00, 0x00, 0x00, 0x00, 0xEC, 0x00, 0x00};
-    const piongseut_pending empty = piongseut_empty();
-    piongseut_pending record = empty;
+    const piongseut_record empty = piongseut_record_empty();
+    piongseut_record record = empty;
     prepare();
     command[at] = value;
-    piongseut_taken taken =
+    piongseut_submit_answer answer =
         piongseut_submit(&record, command, sizeof command, registers, sizeof registers, declared, sense, sizeof sense);
-    check(taken.number == number && taken.status == PIONGSEUT_CHECK_CONDITION &&
-              memcmp(&taken.order, &empty.order, sizeof empty.order) == 0 && memcmp(&record, &empty, sizeof empty) == 0,
+    check(answer.number == number && answer.status == PIONGSEUT_CHECK_CONDITION &&
+              memcmp(&answer.order, &empty.order, sizeof empty.order) == 0 && memcmp(&record, &empty, sizeof empty) == 0,
           what);
 }
 
 static void refused_orders(void)
 {
-    c6_refused(0, 0xA1, 511, 14, "C7: declared 511, 14");
-    c6_refused(2, 0x06, 512, 12, "C8: T_DIR to the drive, 12");
-    c6_refused(2, 0x0C, 512, 11, "C9: T_LENGTH 0, 11");
-    c6_refused(4, 0x00, 512, 13, "C10: count 0, 13");
-    c6_refused(1, 0x04, 512, 9, "C11: PROTOCOL 2, 9");
+    c6_refused(0, 0xA1, 511, PIONGSEUT_REFUSED_ABOVE_DECLARED, "C7: declared 511, 14");
+    c6_refused(2, 0x06, 512, PIONGSEUT_REFUSED_T_DIR, "C8: T_DIR to the drive, 12");
+    c6_refused(2, 0x0C, 512, PIONGSEUT_REFUSED_T_LENGTH, "C9: T_LENGTH 0, 11");
+    c6_refused(4, 0x00, 512, PIONGSEUT_REFUSED_LENGTH_ZERO, "C10: count 0, 13");
+    c6_refused(1, 0x04, 512, PIONGSEUT_REFUSED_PROTOCOL, "C11: PROTOCOL 2, 9");
+}
+
+/* A command that is submitted to the record, with 512 bytes declared. */
+static piongseut_submit_answer submit(piongseut_record *record, const uint8_t *command, size_t size)
+{
+    return piongseut_submit(record, command, size, registers, sizeof registers, 512, sense, sizeof sense);
+}
+
+static piongseut_complete_answer complete(piongseut_record *record)
+{
+    return piongseut_complete(record, registers, sizeof registers, sense, sizeof sense);
 }
 
 /* C6 is taken; then the record is busy, protocol 15 leaves it, and completion empties it. */
 static void one_order(void)
 {
     static const uint8_t command[12] = {0xA1, 0x08, 0x0E, 0x00, 0x01, 0x00, 0x00, 0x00, 0x00, 0xEC, 0x00, 0x00};
-    static const uint8_t report[12] = {0xA1, 0x1E, 0x00, 0x00, 0x00, 0x00, 0x00, 0x00, 0x00, 0x00, 0x00, 0x00};
-    const piongseut_pending empty = piongseut_empty();
-    piongseut_pending record = empty;
+    static const uint8_t report[12] = {0xA1, PIONGSEUT_PROTOCOL_RETURN_RESPONSE_INFORMATION << 1};
+    const piongseut_record empty = piongseut_record_empty();
+    piongseut_record record = empty;
     prepare();
-    check(empty.state == 0, "an empty record holds nothing");
-    piongseut_taken taken = piongseut_submit(&record, command, 12, registers, 11, 512, sense, sizeof sense);
-    check(taken.number == 0 && taken.status == PIONGSEUT_NONE && taken.order.direction == 1 && taken.order.length == 512 &&
-              taken.order.command == 0xEC && taken.order.protocol == 4 && taken.order.count == 1,
+    check(empty.state == PIONGSEUT_STATE_NOTHING, "an empty record holds nothing");
+    piongseut_submit_answer answer = submit(&record, command, sizeof command);
+    check(answer.number == PIONGSEUT_ACCEPTED && answer.status == PIONGSEUT_NONE &&
+              answer.order.direction == PIONGSEUT_DIRECTION_FROM_DRIVE && answer.order.length == 512 &&
+              answer.order.command == 0xEC && answer.order.protocol == PIONGSEUT_PROTOCOL_PIO_DATA_IN && answer.order.count == 1,
           "C6: from the drive, 512 bytes");
-    check(record.state != 0 && memcmp(&record.order, &taken.order, sizeof taken.order) == 0, "the record holds the order");
-    piongseut_pending before = record;
-    taken = piongseut_submit(&record, command, 12, registers, 11, 512, sense, sizeof sense);
-    check(taken.number == 10 && taken.status == PIONGSEUT_BUSY && untouched(sense, sizeof sense), "a second order: BUSY, 10");
-    taken = piongseut_submit(&record, report, 12, registers, 11, 0, sense, sizeof sense);
-    check(taken.number == 0 && taken.status == PIONGSEUT_CHECK_CONDITION && sense[3] == 0x1D && sense[13] == 0xFF &&
-              memcmp(&record, &before, sizeof record) == 0,
+    check(record.state == PIONGSEUT_STATE_ORDER && memcmp(&record.order, &answer.order, sizeof answer.order) == 0,
+          "the record holds the order");
+    piongseut_record before = record;
+    answer = submit(&record, command, sizeof command);
+    check(answer.number == PIONGSEUT_REFUSED_PENDING && answer.status == PIONGSEUT_BUSY && untouched(sense, sizeof sense),
+          "a second order: BUSY, 10");
+    answer = submit(&record, report, sizeof report);
+    check(answer.number == PIONGSEUT_ACCEPTED && answer.status == PIONGSEUT_CHECK_CONDITION && sense[3] == 0x1D &&
+              memcmp(sense + REGISTERS_AT, registers, sizeof registers) == 0 && memcmp(&record, &before, sizeof record) == 0,
           "PROTOCOL 15 reports and leaves the record");
     prepare();
-    piongseut_ended ended = piongseut_complete(&record, registers, 11, sense, sizeof sense);
-    check(ended.number == 0 && ended.status == PIONGSEUT_GOOD && untouched(sense, sizeof sense) &&
+    piongseut_complete_answer ended = complete(&record);
+    check(ended.number == PIONGSEUT_ACCEPTED && ended.status == PIONGSEUT_GOOD && untouched(sense, sizeof sense) &&
               memcmp(&record, &empty, sizeof record) == 0,
           "completion: GOOD, and the record is empty");
-    ended = piongseut_complete(&record, registers, 11, sense, sizeof sense);
-    check(ended.number == 15 && ended.status == PIONGSEUT_NONE, "completion with nothing pending, 15");
+    ended = complete(&record);
+    check(ended.number == PIONGSEUT_REFUSED_NOTHING_PENDING && ended.status == PIONGSEUT_NONE,
+          "completion with nothing pending, 15");
 }
 
 static void c12(void)
 {
-    static const uint8_t command[16] = {0x85, 0x06, 0x20, 0, 0, 0, 0, 0, 0, 0, 0, 0, 0, 0, 0xE5, 0x00};
-    static const uint8_t wanted[22] = {0x72, 0x01, 0x00, 0x1D, 0x00, 0x00, 0x00, 0x0E, 0x09, 0x0C, 0x00,
-                                       0x00, 0x00, 0xFF, 0x00, 0x00, 0x00, 0x00, 0x00, 0x00, 0x00, 0x50};
-    piongseut_pending record = piongseut_empty();
+    static const uint8_t command[16] = {0x85, PIONGSEUT_PROTOCOL_NON_DATA << 1, 0x20, 0, 0, 0, 0, 0, 0, 0, 0, 0, 0, 0, 0xE5, 0x00};
+    static const uint8_t wanted[PIONGSEUT_SENSE_SIZE] = {0x72, 0x01, 0x00, 0x1D, 0x00, 0x00, 0x00, 0x0E, 0x09, 0x0C, 0x00,
+                                                         0x00, 0x00, 0xFF, 0x00, 0x00, 0x00, 0x00, 0x00, 0x00, 0x00, 0x50};
+    piongseut_record record = piongseut_record_empty();
     prepare();
-    piongseut_taken taken = piongseut_submit(&record, command, 16, registers, 11, 0, sense, sizeof sense);
-    check(taken.number == 0 && taken.order.ck_cond == 1 && taken.order.direction == 0 && taken.order.command == 0xE5,
+    piongseut_submit_answer answer = submit(&record, command, sizeof command);
+    check(answer.number == PIONGSEUT_ACCEPTED && answer.order.ck_cond == 1 &&
+              answer.order.direction == PIONGSEUT_DIRECTION_NONE && answer.order.command == 0xE5,
           "C12: the order is taken");
-    piongseut_ended ended = piongseut_complete(&record, registers, 11, sense, sizeof sense);
-    check(ended.number == 0 && ended.status == PIONGSEUT_CHECK_CONDITION && memcmp(sense, wanted, 22) == 0 &&
-              untouched(sense + 22, sizeof sense - 22),
+    piongseut_complete_answer ended = complete(&record);
+    check(ended.number == PIONGSEUT_ACCEPTED && ended.status == PIONGSEUT_CHECK_CONDITION &&
+              memcmp(sense, wanted, sizeof wanted) == 0 && untouched(sense + sizeof wanted, sizeof sense - sizeof wanted),
           "C12: completes with 22 sense bytes");
+}
+
+/* Where the registers' bytes come to stand in the sense data: all different, and EXTEND so that none is left out. */
+static void register_places(void)
+{
+    static const uint8_t command[16] = {0x85, PIONGSEUT_PROTOCOL_NON_DATA << 1 | 1, 0x20};
+    uint8_t said[PIONGSEUT_REGISTERS_SIZE];
+    piongseut_record record = piongseut_record_empty();
+    static const uint8_t wanted[PIONGSEUT_REGISTERS_SIZE] = {1, 2, 3, 4, 5, 6, 7, 8, 9, 10, 0x40};
+    prepare();
+    said[PIONGSEUT_REGISTER_ERROR] = 1;
+    said[PIONGSEUT_REGISTER_COUNT_HIGH] = 2;
+    said[PIONGSEUT_REGISTER_COUNT_LOW] = 3;
+    said[PIONGSEUT_REGISTER_LBA_LOW_HIGH] = 4;
+    said[PIONGSEUT_REGISTER_LBA_LOW_LOW] = 5;
+    said[PIONGSEUT_REGISTER_LBA_MID_HIGH] = 6;
+    said[PIONGSEUT_REGISTER_LBA_MID_LOW] = 7;
+    said[PIONGSEUT_REGISTER_LBA_HIGH_HIGH] = 8;
+    said[PIONGSEUT_REGISTER_LBA_HIGH_LOW] = 9;
+    said[PIONGSEUT_REGISTER_DEVICE] = 10;
+    said[PIONGSEUT_REGISTER_STATUS] = 0x40;
+    piongseut_submit_answer answer = submit(&record, command, sizeof command);
+    piongseut_complete_answer ended = piongseut_complete(&record, said, sizeof said, sense, sizeof sense);
+    check(answer.number == PIONGSEUT_ACCEPTED && ended.number == PIONGSEUT_ACCEPTED &&
+              memcmp(sense + REGISTERS_AT, wanted, sizeof wanted) == 0,
+          "the registers stand in document 01's order");
 }
 
 static void longest_order(void)
 {
-    static const uint8_t command[16] = {0x85, 0x09, 0x0E, 0, 0, 0xFF, 0xFF, 0, 0, 0, 0, 0, 0, 0, 0x25, 0x00};
-    piongseut_pending record = piongseut_empty();
+    static const uint8_t command[16] = {0x85, PIONGSEUT_PROTOCOL_PIO_DATA_IN << 1 | 1, 0x0E, 0, 0, 0xFF, 0xFF, 0, 0, 0, 0, 0, 0, 0,
+                                        0x25, 0x00};
+    piongseut_record record = piongseut_record_empty();
     prepare();
-    piongseut_taken taken = piongseut_submit(&record, command, 16, registers, 11, UINT32_MAX, sense, sizeof sense);
-    check(taken.number == 0 && taken.order.length == 33553920 && taken.order.extend == 1,
+    piongseut_submit_answer answer =
+        piongseut_submit(&record, command, sizeof command, registers, sizeof registers, UINT32_MAX, sense, sizeof sense);
+    check(answer.number == PIONGSEUT_ACCEPTED && answer.order.length == 33553920 && answer.order.extend == 1,
           "EXTEND, count FFFFh: 33,553,920 bytes");
-    record = piongseut_empty();
-    taken = piongseut_submit(&record, command, 16, registers, 10, UINT32_MAX, sense, sizeof sense);
-    check(taken.number == 1 && taken.status == PIONGSEUT_NONE && record.state == 0, "ten registers, 1");
+    record = piongseut_record_empty();
+    answer = piongseut_submit(&record, command, sizeof command, registers, PIONGSEUT_REGISTERS_SIZE - 1, UINT32_MAX, sense,
+                              sizeof sense);
+    check(answer.number == PIONGSEUT_REFUSED_SIZE && answer.status == PIONGSEUT_NONE && record.state == PIONGSEUT_STATE_NOTHING,
+          "ten registers, 1");
+}
+
+/* A command of PROTOCOL, with blocks by the count where it has data, is taken as an order of the same protocol and direction. */
+static void protocol_taken(uint8_t protocol, uint8_t flags, uint8_t direction, const char *what)
+{
+    const uint8_t command[12] = {0xA1, (uint8_t)(protocol << 1), flags, 0x00, 0x01};
+    piongseut_record record = piongseut_record_empty();
+    prepare();
+    piongseut_submit_answer answer = submit(&record, command, sizeof command);
+    check(answer.number == PIONGSEUT_ACCEPTED && answer.order.protocol == protocol && answer.order.direction == direction &&
+              answer.order.length == (direction == PIONGSEUT_DIRECTION_NONE ? 0u : 512u),
+          what);
+}
+
+static void protocols(void)
+{
+    const uint8_t none = PIONGSEUT_DIRECTION_NONE, from = PIONGSEUT_DIRECTION_FROM_DRIVE, to = PIONGSEUT_DIRECTION_TO_DRIVE;
+    protocol_taken(PIONGSEUT_PROTOCOL_ATA_HARDWARE_RESET, 0x0E, none, "ATA hardware reset: no data, T_LENGTH ignored");
+    protocol_taken(PIONGSEUT_PROTOCOL_SRST, 0x0E, none, "SRST: no data, T_LENGTH ignored");
+    protocol_taken(PIONGSEUT_PROTOCOL_NON_DATA, 0x00, none, "Non-data");
+    protocol_taken(PIONGSEUT_PROTOCOL_PIO_DATA_IN, 0x0E, from, "PIO Data-In");
+    protocol_taken(PIONGSEUT_PROTOCOL_PIO_DATA_OUT, 0x06, to, "PIO Data-Out");
+    protocol_taken(PIONGSEUT_PROTOCOL_DMA, 0x0E, from, "DMA from the drive");
+    protocol_taken(PIONGSEUT_PROTOCOL_DMA, 0x06, to, "DMA to the drive");
+    protocol_taken(PIONGSEUT_PROTOCOL_EXECUTE_DEVICE_DIAGNOSTIC, 0x00, none, "Execute Device Diagnostic");
+    protocol_taken(PIONGSEUT_PROTOCOL_DEVICE_RESET, 0x00, none, "Device Reset");
+    protocol_taken(PIONGSEUT_PROTOCOL_UDMA_DATA_IN, 0x0E, from, "UDMA Data In");
+    protocol_taken(PIONGSEUT_PROTOCOL_UDMA_DATA_OUT, 0x06, to, "UDMA Data Out");
 }
 
 static void pages83(void)
 {
     prepare();
-    piongseut_written written = piongseut_write_page83(block, sizeof block, room, 16);
-    check(written.number == 0 && written.count == 16 && memcmp(room, c1_page, 16) == 0 && untouched(room + 16, 60),
+    piongseut_write_page83_answer written = piongseut_write_page83(block, sizeof block, room, PIONGSEUT_PAGE83_WWN_SIZE);
+    check(written.number == PIONGSEUT_ACCEPTED && written.count == PIONGSEUT_PAGE83_WWN_SIZE &&
+              memcmp(room, c1_page, sizeof c1_page) == 0 && untouched(room + sizeof c1_page, 60),
           "the writer makes C1's page");
-    piongseut_name name = piongseut_read_page83(room, 16);
-    check(name.number == 0 && name.form == 1 && memcmp(name.name, c1_page + 8, 8) == 0 && name.name[8] == 0,
+    piongseut_read_page83_answer read = piongseut_read_page83(room, PIONGSEUT_PAGE83_WWN_SIZE);
+    check(read.number == PIONGSEUT_ACCEPTED && read.form == PIONGSEUT_FORM_WWN &&
+              memcmp(read.name, c1_page + 8, PIONGSEUT_WWN_SIZE) == 0 && read.name[PIONGSEUT_WWN_SIZE] == 0,
           "the reader gives back the name");
-    name = piongseut_read_page83(room, 17);
-    check(name.number == 16 && name.form == 0 && name.name[0] == 0, "a page with a byte behind it, 16");
+    read = piongseut_read_page83(room, PIONGSEUT_PAGE83_WWN_SIZE + 1);
+    check(read.number == PIONGSEUT_REFUSED_NOT_A_PAGE && read.form == PIONGSEUT_FORM_REFUSED && read.name[0] == 0,
+          "a page with a byte behind it, 16");
     memset(block, 0, sizeof block);
     block[55] = 'M';
     block[21] = 'S';
     written = piongseut_write_page83(block, sizeof block, room, sizeof room);
-    name = piongseut_read_page83(room, written.count);
-    check(written.count == 76 && name.form == 2 && name.name[0] == 'M' && name.name[1] == ' ' && name.name[40] == 'S',
+    read = piongseut_read_page83(room, written.count);
+    check(written.count == PIONGSEUT_PAGE83_TEXT_SIZE && read.form == PIONGSEUT_FORM_TEXT && read.name[0] == 'M' &&
+              read.name[1] == ' ' && read.name[PIONGSEUT_MODEL_SIZE] == 'S' &&
+              sizeof read.name == PIONGSEUT_MODEL_SIZE + PIONGSEUT_SERIAL_SIZE,
           "model and serial number, zeros as spaces");
-    written = piongseut_write_page83(block, sizeof block, room, 75);
-    check(written.number == 8 && written.count == 0, "room 75 for 76 bytes, 8");
+    written = piongseut_write_page83(block, sizeof block, room, PIONGSEUT_PAGE83_TEXT_SIZE - 1);
+    check(written.number == PIONGSEUT_REFUSED_ROOM && written.count == 0, "room 75 for 76 bytes, 8");
 }
 
-/* The three blocks of document 01's sample. */
+/* The three blocks of document 01's sample; then no blocks, all that a roll has, and one more. */
 static void rolls(void)
 {
-    static uint8_t blocks[65 * 512];
-    uint16_t rows[4] = {0xAAAA, 0xAAAA, 0xAAAA, 0xAAAA};
+    static uint8_t blocks[(PIONGSEUT_ROLL_BLOCKS + 1) * PIONGSEUT_BLOCK_SIZE];
+    uint16_t rows[PIONGSEUT_ROLL_BLOCKS + 1];
+    memset(rows, 0xAA, sizeof rows);
     prepare();
-    memcpy(blocks, block, 512);
-    memcpy(blocks + 512, block, 512);
-    blocks[512 + 20] = 0x41;
-    piongseut_roll_answer answer = piongseut_roll(blocks, 3 * 512, rows, 4);
-    check(answer.number == 0 && answer.blocks == 3 && answer.drives == 2, "the sample's roll: 3 blocks, 2 drives");
+    memcpy(blocks, block, sizeof block);
+    memcpy(blocks + sizeof block, block, sizeof block);
+    blocks[sizeof block + 20] = 0x41;
+    piongseut_roll_answer answer = piongseut_roll(blocks, 3 * sizeof block, rows, 4);
+    check(answer.number == PIONGSEUT_ACCEPTED && answer.blocks == 3 && answer.drives == 2,
+          "the sample's roll: 3 blocks, 2 drives");
     check(rows[0] == 1 && rows[1] == 1 && rows[2] == 2 && rows[3] == 0xAAAA, "the sample's rows: 1, 1, 2");
     answer = piongseut_roll(blocks, 0, rows, 0);
-    check(answer.number == 0 && answer.blocks == 0 && answer.drives == 0, "a roll of no blocks");
-    answer = piongseut_roll(blocks, 3 * 512, rows, 2);
-    check(answer.number == 1 && answer.blocks == 0 && answer.drives == 0, "fewer rows than blocks, 1");
-    answer = piongseut_roll(blocks, sizeof blocks, rows, 4);
-    check(answer.number == 1, "65 blocks, 1");
+    check(answer.number == PIONGSEUT_ACCEPTED && answer.blocks == 0 && answer.drives == 0, "a roll of no blocks");
+    answer = piongseut_roll(blocks, 3 * sizeof block, rows, 2);
+    check(answer.number == PIONGSEUT_REFUSED_SIZE && answer.blocks == 0 && answer.drives == 0, "fewer rows than blocks, 1");
+    answer = piongseut_roll(blocks, sizeof blocks - sizeof block, rows, PIONGSEUT_ROLL_BLOCKS);
+    check(answer.number == PIONGSEUT_ACCEPTED && answer.blocks == PIONGSEUT_ROLL_BLOCKS && answer.drives == 2, "64 blocks");
+    answer = piongseut_roll(blocks, sizeof blocks, rows, PIONGSEUT_ROLL_BLOCKS + 1);
+    check(answer.number == PIONGSEUT_REFUSED_SIZE, "65 blocks, 1");
 }
 
 /* Whether a refused run came back with the intake as it was, and nothing was written. */
 static int run_refused(piongseut_intake intake, uint8_t *store, size_t size)
 {
     static const uint8_t run[3] = {1, 2, 3};
-    piongseut_intake_answer answer = piongseut_intake_take(intake, store, size, run, sizeof run);
-    return answer.number == 1 && answer.used == 0 && answer.complete == 0 && answer.next.have == intake.have &&
-           answer.next.sum == intake.sum && untouched(store, size);
+    piongseut_intake_take_answer answer = piongseut_intake_take(intake, store, size, run, sizeof run);
+    return answer.number == PIONGSEUT_REFUSED_SIZE && answer.used == 0 && answer.complete == 0 &&
+           answer.next.have == intake.have && answer.next.sum == intake.sum && untouched(store, size);
 }
 
 static void refused_runs(void)
 {
-    const piongseut_intake too_many = {513, 0xABCD};
+    const piongseut_intake too_many = {PIONGSEUT_BLOCK_SIZE + 1, 0xABCD};
     const piongseut_intake most = {0xFFFF, 1};
-    static uint8_t store[513];
+    static uint8_t store[PIONGSEUT_BLOCK_SIZE + 1];
     memset(store, FILL, sizeof store);
-    check(run_refused(too_many, store, 512) && run_refused(most, store, 512), "an intake that claims more than 512 bytes, 1");
-    check(run_refused(piongseut_intake_empty(), store, 511) && run_refused(piongseut_intake_empty(), store, 513) &&
+    check(run_refused(too_many, store, PIONGSEUT_BLOCK_SIZE) && run_refused(most, store, PIONGSEUT_BLOCK_SIZE),
+          "an intake that claims more than 512 bytes, 1");
+    check(run_refused(piongseut_intake_empty(), store, PIONGSEUT_BLOCK_SIZE - 1) &&
+              run_refused(piongseut_intake_empty(), store, PIONGSEUT_BLOCK_SIZE + 1) &&
               run_refused(piongseut_intake_empty(), store, 0),
           "a store that is not of 512 bytes, 1");
+}
+
+/* Whether a run came to this: bytes used, bytes that the intake has then, complete exactly if they are a block, and C1's sum. */
+static int took(piongseut_intake_take_answer answer, unsigned used, unsigned have)
+{
+    return answer.number == PIONGSEUT_ACCEPTED && answer.used == used && answer.next.have == have &&
+           answer.complete == (have == PIONGSEUT_BLOCK_SIZE) && answer.next.sum == 0x29;
 }
 
 /* C1's block and four bytes behind it, in three runs of which one has no bytes. Back: the intake, which is complete then. */
 static piongseut_intake one_stream(uint8_t *store)
 {
-    static uint8_t wire[516];
+    static uint8_t wire[PIONGSEUT_BLOCK_SIZE + 4];
+    const size_t rest = PIONGSEUT_BLOCK_SIZE - 300;
     const piongseut_intake empty = piongseut_intake_empty();
     memset(wire, 0x77, sizeof wire);
     memcpy(wire, block, sizeof block);
     check(empty.have == 0 && empty.sum == 0, "an empty intake has nothing");
-    piongseut_intake_answer answer = piongseut_intake_take(empty, store, 512, wire, 300);
-    check(answer.number == 0 && answer.used == 300 && answer.complete == 0 && answer.next.have == 300 && answer.next.sum == 0x29,
-          "a run of 300 bytes: all used, not complete");
-    check(memcmp(store, wire, 300) == 0 && untouched(store + 300, 212), "the store has its bytes, and no others");
-    answer = piongseut_intake_take(answer.next, store, 512, wire, 0);
-    check(answer.number == 0 && answer.used == 0 && answer.complete == 0 && answer.next.have == 300 && answer.next.sum == 0x29,
-          "a run of no bytes: nothing changes");
-    answer = piongseut_intake_take(answer.next, store, 512, wire + 300, 216);
-    check(answer.number == 0 && answer.used == 212 && answer.complete == 1 && answer.next.have == 512 && answer.next.sum == 0x29,
-          "a run of 216 bytes: 212 used, complete");
-    check(memcmp(store, block, 512) == 0, "the store is the stream's first 512 bytes");
-    piongseut_intake_answer more = piongseut_intake_take(answer.next, store, 512, wire + 512, 4);
-    check(more.number == 0 && more.used == 0 && more.complete == 1 && more.next.have == 512 && memcmp(store, block, 512) == 0,
+    piongseut_intake_take_answer answer = piongseut_intake_take(empty, store, sizeof block, wire, 300);
+    check(took(answer, 300, 300), "a run of 300 bytes: all used, not complete");
+    check(memcmp(store, wire, 300) == 0 && untouched(store + 300, rest), "the store has its bytes, and no others");
+    answer = piongseut_intake_take(answer.next, store, sizeof block, wire, 0);
+    check(took(answer, 0, 300), "a run of no bytes: nothing changes");
+    answer = piongseut_intake_take(answer.next, store, sizeof block, wire + 300, rest + 4);
+    check(took(answer, (unsigned)rest, PIONGSEUT_BLOCK_SIZE), "a run of 216 bytes: 212 used, complete");
+    check(memcmp(store, block, sizeof block) == 0, "the store is the stream's first 512 bytes");
+    piongseut_intake_take_answer more = piongseut_intake_take(answer.next, store, sizeof block, wire + sizeof block, 4);
+    check(took(more, 0, PIONGSEUT_BLOCK_SIZE) && memcmp(store, block, sizeof block) == 0,
           "a run for a complete intake: nothing used");
     return answer.next;
 }
@@ -305,8 +423,9 @@ static piongseut_intake one_stream(uint8_t *store)
 static piongseut_inquiry_answer ask_intake(piongseut_intake intake, const uint8_t *store, uint8_t page)
 {
     const uint8_t command[6] = {0x12, 0x01, page, 0xFF, 0xFF, 0x00};
-    piongseut_intake_count its = piongseut_intake_block(intake, 512);
-    check(its.number == 0 && its.count == (intake.have == 512 ? 512u : 0u), "the block of an intake: 512 bytes or none");
+    const size_t whole = intake.have == PIONGSEUT_BLOCK_SIZE ? PIONGSEUT_BLOCK_SIZE : 0;
+    piongseut_intake_block_answer its = piongseut_intake_block(intake, PIONGSEUT_BLOCK_SIZE);
+    check(its.number == PIONGSEUT_ACCEPTED && its.count == whole, "the block of an intake: 512 bytes or none");
     return piongseut_inquiry(command, sizeof command, store, its.count, signature, sizeof signature, texts, sizeof texts, texts, 0,
                              room, sizeof room, sense, sizeof sense);
 }
@@ -314,54 +433,64 @@ static piongseut_inquiry_answer ask_intake(piongseut_intake intake, const uint8_
 /* Pages from the complete intake, from one that lacks a byte, and no block of a wrong one. */
 static void intake_pages(piongseut_intake intake, const uint8_t *store)
 {
-    static const uint8_t zeros[512] = {0};
+    static const uint8_t zeros[PIONGSEUT_BLOCK_SIZE] = {0};
     piongseut_inquiry_answer answer = ask_intake(intake, store, 0x89);
-    check(answer.number == 0 && answer.status == PIONGSEUT_GOOD && answer.shown == 1 && answer.count == 572 && room[56] == 0xEC &&
-              memcmp(room + 60, block, 512) == 0 && untouched(room + 572, sizeof room - 572),
+    check(answer.number == PIONGSEUT_ACCEPTED && answer.status == PIONGSEUT_GOOD && answer.shown == PIONGSEUT_SHOWN_ROOM &&
+              answer.count == PIONGSEUT_PAGE89_SIZE && room[56] == 0xEC && memcmp(room + 60, block, sizeof block) == 0 &&
+              untouched(room + PIONGSEUT_PAGE89_SIZE, sizeof room - PIONGSEUT_PAGE89_SIZE),
           "page 89h from the intake: its block");
-    intake.have = 511;
+    intake.have = PIONGSEUT_BLOCK_SIZE - 1;
     answer = ask_intake(intake, store, 0x89);
-    check(answer.number == 0 && answer.count == 572 && memcmp(room + 60, zeros, 512) == 0, "page 89h until complete: zeros");
+    check(answer.number == PIONGSEUT_ACCEPTED && answer.count == PIONGSEUT_PAGE89_SIZE &&
+              memcmp(room + 60, zeros, sizeof zeros) == 0,
+          "page 89h until complete: zeros");
     answer = ask_intake(intake, store, 0x83);
-    check(answer.number == 6 && answer.status == PIONGSEUT_CHECK_CONDITION && sense[1] == 0x02, "page 83h until complete, 6");
-    intake.have = 513;
-    piongseut_intake_count its = piongseut_intake_block(intake, 512);
-    check(its.number == 1 && its.count == 0, "the block of an intake that claims 513 bytes, 1");
-    its = piongseut_intake_block(piongseut_intake_empty(), 511);
-    check(its.number == 1 && its.count == 0, "the block of a store of 511 bytes, 1");
+    check(answer.number == PIONGSEUT_REFUSED_NO_BLOCK && answer.status == PIONGSEUT_CHECK_CONDITION && sense[1] == 0x02,
+          "page 83h until complete, 6");
+    intake.have = PIONGSEUT_BLOCK_SIZE + 1;
+    piongseut_intake_block_answer its = piongseut_intake_block(intake, PIONGSEUT_BLOCK_SIZE);
+    check(its.number == PIONGSEUT_REFUSED_SIZE && its.count == 0, "the block of an intake that claims 513 bytes, 1");
+    its = piongseut_intake_block(piongseut_intake_empty(), PIONGSEUT_BLOCK_SIZE - 1);
+    check(its.number == PIONGSEUT_REFUSED_SIZE && its.count == 0, "the block of a store of 511 bytes, 1");
+}
+
+static uint8_t stores[2 * PIONGSEUT_BLOCK_SIZE];
+static uint8_t gathered[2 * PIONGSEUT_BLOCK_SIZE];
+
+/* Whether gathering from two intakes is refused with this number, and nothing is written. */
+static int gather_refused(uint16_t first_has, size_t stores_size, size_t room_size, uint8_t number)
+{
+    const uint16_t haves[2] = {first_has, PIONGSEUT_BLOCK_SIZE};
+    piongseut_intake_gather_answer answer = piongseut_intake_gather(haves, 2, stores, stores_size, gathered, room_size);
+    return answer.number == number && answer.count == 0 && untouched(gathered, sizeof gathered);
 }
 
 /* Two intakes, of which the first is not complete: the roll is that of the second's block. */
 static void intake_rolls(const uint8_t *store)
 {
-    static uint8_t stores[1024];
-    static uint8_t blocks[1024];
-    uint16_t haves[2] = {511, 512};
+    const uint16_t short_of = PIONGSEUT_BLOCK_SIZE - 1;
+    const uint16_t haves[2] = {short_of, PIONGSEUT_BLOCK_SIZE};
     uint16_t rows[2] = {0xAAAA, 0xAAAA};
-    memset(stores, 'S', 512);
-    memcpy(stores + 512, store, 512);
-    memset(blocks, FILL, sizeof blocks);
-    piongseut_intake_count gathered = piongseut_intake_gather(haves, 2, stores, sizeof stores, blocks, 511);
-    check(gathered.number == 8 && gathered.count == 0 && untouched(blocks, sizeof blocks), "room 511 for one block, 8");
-    gathered = piongseut_intake_gather(haves, 2, stores, 1023, blocks, sizeof blocks);
-    check(gathered.number == 1 && gathered.count == 0 && untouched(blocks, sizeof blocks),
+    memset(stores, 'S', PIONGSEUT_BLOCK_SIZE);
+    memcpy(stores + PIONGSEUT_BLOCK_SIZE, store, PIONGSEUT_BLOCK_SIZE);
+    memset(gathered, FILL, sizeof gathered);
+    check(gather_refused(short_of, sizeof stores, PIONGSEUT_BLOCK_SIZE - 1, PIONGSEUT_REFUSED_ROOM), "room 511 for one block, 8");
+    check(gather_refused(short_of, sizeof stores - 1, sizeof gathered, PIONGSEUT_REFUSED_SIZE),
           "stores of 1,023 bytes for two intakes, 1");
-    haves[0] = 513;
-    gathered = piongseut_intake_gather(haves, 2, stores, sizeof stores, blocks, sizeof blocks);
-    check(gathered.number == 1 && gathered.count == 0 && untouched(blocks, sizeof blocks),
+    check(gather_refused(PIONGSEUT_BLOCK_SIZE + 1, sizeof stores, sizeof gathered, PIONGSEUT_REFUSED_SIZE),
           "gathering from an intake that claims 513 bytes, 1");
-    haves[0] = 511;
-    gathered = piongseut_intake_gather(haves, 2, stores, sizeof stores, blocks, sizeof blocks);
-    check(gathered.number == 0 && gathered.count == 512, "two intakes, one complete: 512 bytes");
-    check(memcmp(blocks, store, 512) == 0 && untouched(blocks + 512, 512), "the complete intake's block is at the room's start");
-    piongseut_roll_answer answer = piongseut_roll(blocks, gathered.count, rows, 2);
-    check(answer.number == 0 && answer.blocks == 1 && answer.drives == 1 && rows[0] == 1 && rows[1] == 0xAAAA,
+    piongseut_intake_gather_answer its = piongseut_intake_gather(haves, 2, stores, sizeof stores, gathered, sizeof gathered);
+    check(its.number == PIONGSEUT_ACCEPTED && its.count == PIONGSEUT_BLOCK_SIZE, "two intakes, one complete: 512 bytes");
+    check(memcmp(gathered, store, PIONGSEUT_BLOCK_SIZE) == 0 && untouched(gathered + PIONGSEUT_BLOCK_SIZE, PIONGSEUT_BLOCK_SIZE),
+          "the complete intake's block is at the room's start");
+    piongseut_roll_answer answer = piongseut_roll(gathered, its.count, rows, 2);
+    check(answer.number == PIONGSEUT_ACCEPTED && answer.blocks == 1 && answer.drives == 1 && rows[0] == 1 && rows[1] == 0xAAAA,
           "the roll of what was gathered: one block, one drive");
 }
 
 static void intakes(void)
 {
-    static uint8_t store[512];
+    static uint8_t store[PIONGSEUT_BLOCK_SIZE];
     prepare();
     memset(store, FILL, sizeof store);
     refused_runs();
@@ -372,13 +501,17 @@ static void intakes(void)
 
 int main(void)
 {
+    version();
     inquiries();
+    page_sizes();
     page89();
     packet_drives();
     refused_orders();
     one_order();
     c12();
+    register_places();
     longest_order();
+    protocols();
     pages83();
     rolls();
     intakes();

@@ -98,7 +98,7 @@ static int property(drive *d, const char *folder, const char *key, const char *v
 /* The register FIS that a drive sends after power on. */
 static void sign(drive *d)
 {
-    static const uint8_t disk[20] = {0x34, 0, 0x50, 1, 1, 0, 0, 0, 0, 0, 0, 0, 1};
+    static const uint8_t disk[PIONGSEUT_SIGNATURE_SIZE] = {0x34, 0, 0x50, 1, 1, [12] = 1};
     memcpy(d->signature, disk, sizeof disk);
     if (d->packet) {
         d->signature[2] = 0;
@@ -110,13 +110,13 @@ static void sign(drive *d)
 static void reset(drive *d)
 {
     memset(d->registers, 0, sizeof d->registers);
-    d->registers[R_ERROR] = d->signature[3];
-    d->registers[R_COUNT_LOW] = d->signature[12];
-    d->registers[R_LOW_LOW] = d->signature[4];
-    d->registers[R_MID_LOW] = d->signature[5];
-    d->registers[R_HIGH_LOW] = d->signature[6];
-    d->registers[R_DEVICE] = d->signature[7];
-    d->registers[R_STATUS] = d->signature[2];
+    d->registers[PIONGSEUT_REGISTER_ERROR] = d->signature[3];
+    d->registers[PIONGSEUT_REGISTER_COUNT_LOW] = d->signature[12];
+    d->registers[PIONGSEUT_REGISTER_LBA_LOW_LOW] = d->signature[4];
+    d->registers[PIONGSEUT_REGISTER_LBA_MID_LOW] = d->signature[5];
+    d->registers[PIONGSEUT_REGISTER_LBA_HIGH_LOW] = d->signature[6];
+    d->registers[PIONGSEUT_REGISTER_DEVICE] = d->signature[7];
+    d->registers[PIONGSEUT_REGISTER_STATUS] = d->signature[2];
 }
 
 int drive_describe(drive *d, const char *text, const char *folder, char *complaint, size_t size)
@@ -194,7 +194,8 @@ static size_t log_page(unsigned address, unsigned page_number, uint8_t *page)
 /* The commands fill page if they return data, and give its size; -1 aborts. */
 static int smart(drive *d, const piongseut_order *order, uint8_t *page)
 {
-    uint8_t *mid = &d->registers[R_MID_LOW], *high = &d->registers[R_HIGH_LOW];
+    uint8_t *mid = &d->registers[PIONGSEUT_REGISTER_LBA_MID_LOW];
+    uint8_t *high = &d->registers[PIONGSEUT_REGISTER_LBA_HIGH_LOW];
     unsigned subcommand = order->features & 0xFF;
     if ((order->lba_mid & 0xFF) != 0x4F || (order->lba_high & 0xFF) != 0xC2)
         return -1;
@@ -236,12 +237,12 @@ static int perform(drive *d, const piongseut_order *order, uint8_t *page)
     case 0xA1:
         if (!d->identify_size || d->packet != (order->command == 0xA1))
             return -1;
-        memcpy(page, d->identify, 512);
-        return 512;
+        memcpy(page, d->identify, d->identify_size);
+        return (int)d->identify_size;
     case 0xB0:
         return smart(d, order, page);
     case 0xE5:
-        d->registers[R_COUNT_LOW] = d->power;
+        d->registers[PIONGSEUT_REGISTER_COUNT_LOW] = d->power;
         return 0;
     case 0x2F:
         if (!order->extend || order->count != 1)
@@ -258,29 +259,32 @@ static int perform(drive *d, const piongseut_order *order, uint8_t *page)
 static void load(drive *d, const piongseut_order *o)
 {
     const uint16_t values[] = {o->count, o->lba_low, o->lba_mid, o->lba_high};
+    uint8_t *high = &d->registers[PIONGSEUT_REGISTER_COUNT_HIGH];
+    uint8_t *low = &d->registers[PIONGSEUT_REGISTER_COUNT_LOW];
     for (size_t i = 0; i < 4; i++) {
-        d->registers[R_COUNT_HIGH + 2 * i] = o->extend ? (uint8_t)(values[i] >> 8) : LEFT_OVER;
-        d->registers[R_COUNT_LOW + 2 * i] = (uint8_t)values[i];
+        high[2 * i] = o->extend ? (uint8_t)(values[i] >> 8) : LEFT_OVER;
+        low[2 * i] = (uint8_t)values[i];
     }
-    d->registers[R_ERROR] = 0;
-    d->registers[R_DEVICE] = o->device;
-    d->registers[R_STATUS] = STATUS_GOOD;
+    d->registers[PIONGSEUT_REGISTER_ERROR] = 0;
+    d->registers[PIONGSEUT_REGISTER_DEVICE] = o->device;
+    d->registers[PIONGSEUT_REGISTER_STATUS] = STATUS_GOOD;
 }
 
 size_t drive_execute(drive *d, const piongseut_order *order, uint8_t *data)
 {
     uint8_t page[512] = {0};
-    if (order->protocol <= 1) {
+    if (order->protocol == PIONGSEUT_PROTOCOL_ATA_HARDWARE_RESET ||
+        order->protocol == PIONGSEUT_PROTOCOL_SRST) {
         reset(d);
         return 0;
     }
     load(d, order);
     int given = perform(d, order, page);
     /* An order whose length or direction does not fit the command moves nothing. */
-    int expected = order->direction == FROM_DRIVE ? (int)order->length : 0;
-    if (given < 0 || given != expected || order->direction == TO_DRIVE) {
-        d->registers[R_ERROR] = ERROR_ABORT;
-        d->registers[R_STATUS] = STATUS_ERROR;
+    int expected = order->direction == PIONGSEUT_DIRECTION_FROM_DRIVE ? (int)order->length : 0;
+    if (given < 0 || given != expected || order->direction == PIONGSEUT_DIRECTION_TO_DRIVE) {
+        d->registers[PIONGSEUT_REGISTER_ERROR] = ERROR_ABORT;
+        d->registers[PIONGSEUT_REGISTER_STATUS] = STATUS_ERROR;
         return 0;
     }
     if (given)

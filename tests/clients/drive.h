@@ -8,20 +8,11 @@
 
 #include "piongseut.h"
 
-/* Registers after an order, in the order that the board reads them. */
-enum {
-    R_ERROR, R_COUNT_HIGH, R_COUNT_LOW, R_LOW_HIGH, R_LOW_LOW, R_MID_HIGH, R_MID_LOW,
-    R_HIGH_HIGH, R_HIGH_LOW, R_DEVICE, R_STATUS, R_NUMBER
-};
-
-/* The directions of an order. */
-enum { NO_DATA, FROM_DRIVE, TO_DRIVE };
-
 typedef struct {
-    uint8_t identify[512];
-    size_t identify_size; /* 512, or 0 when the drive gives no block */
-    uint8_t signature[20];
-    uint8_t registers[R_NUMBER];
+    uint8_t identify[PIONGSEUT_BLOCK_SIZE];
+    size_t identify_size; /* that of a block, or 0 when the drive gives none */
+    uint8_t signature[PIONGSEUT_SIGNATURE_SIZE];
+    uint8_t registers[PIONGSEUT_REGISTERS_SIZE];
     uint8_t power;        /* what CHECK POWER MODE says: FFh active, 00h standby */
     int packet;           /* a packet drive, with an INQUIRY reply of its own */
     int failing;          /* SMART RETURN STATUS tells of a threshold passed */

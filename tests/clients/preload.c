@@ -18,11 +18,9 @@
 
 #include "drive.h"
 
-enum { GOOD = 0x00, CHECK_CONDITION = 0x02, NO_STATUS = 0xFF };
 enum { INQUIRY = 0x12, PASS_THROUGH_16 = 0x85 };
 enum { DID_ERROR = 7, DRIVER_SENSE = 8 }; /* the kernel's numbers, in no public header */
-enum { SHOWS_ROOM = 1 };
-enum { NODES = 16, SENSE = 32, PAGE = 572, MOST = 1 << 20 };
+enum { NODES = 16, SENSE = 32, MOST = 1 << 20 };
 
 static const char heading[] = "piongseut drive\n";
 static const uint8_t texts[] = "PIONGSEU" "SATA BRIDGE     " "0001";
@@ -32,7 +30,7 @@ typedef struct {
     dev_t device;
     ino_t number;
     drive drive;
-    piongseut_pending pending;
+    piongseut_record record;
 } node;
 
 /* One command on its way through the board. */
@@ -68,7 +66,7 @@ static node *new_node(const struct stat *s, const char *text)
     node *n = &nodes[nodes_used++];
     n->device = s->st_dev;
     n->number = s->st_ino;
-    n->pending = piongseut_empty();
+    n->record = piongseut_record_empty();
     if (drive_describe(&n->drive, text, folder, complaint, sizeof complaint) < 0)
         die(complaint);
     return n;
@@ -101,7 +99,7 @@ static void put_hex(FILE *out, const uint8_t *bytes, size_t size)
 
 static size_t sense_size(const exchange *x)
 {
-    size_t size = x->status == CHECK_CONDITION ? 8u + x->sense[7] : 0;
+    size_t size = x->status == PIONGSEUT_CHECK_CONDITION ? 8u + x->sense[7] : 0;
     return size < SENSE ? size : SENSE;
 }
 
@@ -126,7 +124,7 @@ static void log_command(const exchange *x)
 
 static void inquire(node *n, exchange *x)
 {
-    uint8_t room[PAGE], reply[PAGE];
+    uint8_t room[PIONGSEUT_PAGE89_SIZE], reply[PIONGSEUT_PAGE89_SIZE];
     const drive *d = &n->drive;
     size_t replied = drive_inquiry(d, x->command, x->command_size, reply, sizeof reply);
     piongseut_inquiry_answer a = piongseut_inquiry(
@@ -136,42 +134,42 @@ static void inquire(node *n, exchange *x)
     x->number = a.number;
     x->status = a.status;
     x->moved = a.count < x->declared ? a.count : x->declared;
-    if (x->moved > PAGE)
+    if (x->moved > sizeof room)
         die("the board shows more bytes than it was lent");
     if (x->moved)
-        memcpy(x->data, a.shown == SHOWS_ROOM ? room : reply, x->moved);
+        memcpy(x->data, a.shown == PIONGSEUT_SHOWN_ROOM ? room : reply, x->moved);
 }
 
 static void pass_through(node *n, exchange *x)
 {
     drive *d = &n->drive;
-    piongseut_taken t = piongseut_submit(&n->pending, x->command, x->command_size, d->registers,
-                                         sizeof d->registers, (uint32_t)x->declared, x->sense,
-                                         sizeof x->sense);
-    x->number = t.number;
-    x->status = t.status;
-    if (t.number != 0 || t.status != NO_STATUS)
+    piongseut_submit_answer s = piongseut_submit(
+        &n->record, x->command, x->command_size, d->registers, sizeof d->registers,
+        (uint32_t)x->declared, x->sense, sizeof x->sense);
+    x->number = s.number;
+    x->status = s.status;
+    if (s.number != PIONGSEUT_ACCEPTED || s.status != PIONGSEUT_NONE)
         return;
-    if (t.order.length > x->declared)
+    if (s.order.length > x->declared)
         die("the board took an order longer than the host's buffer");
     /* a host that lends its buffer for the other direction gets no data and no status */
-    int fits = t.order.direction == NO_DATA || t.order.direction == x->direction;
+    int fits = s.order.direction == PIONGSEUT_DIRECTION_NONE || s.order.direction == x->direction;
     if (fits)
-        x->moved = drive_execute(d, &t.order, x->data);
-    piongseut_ended e = piongseut_complete(&n->pending, d->registers, sizeof d->registers,
-                                           x->sense, sizeof x->sense);
-    x->number = e.number;
-    x->status = fits ? e.status : NO_STATUS;
+        x->moved = drive_execute(d, &s.order, x->data);
+    piongseut_complete_answer c = piongseut_complete(
+        &n->record, d->registers, sizeof d->registers, x->sense, sizeof x->sense);
+    x->number = c.number;
+    x->status = fits ? c.status : PIONGSEUT_NONE;
 }
 
 /* On a packet drive A1h is the drive's own command BLANK, and so are all others but
    INQUIRY and 85h: they are the drive's to answer, and this one knows none of them. */
 static int drive_answers(const node *n, exchange *x)
 {
-    static const uint8_t unknown[8] = {0x72, 0x05, 0x20};
+    static const uint8_t unknown[PIONGSEUT_REFUSAL_SENSE_SIZE] = {0x72, 0x05, 0x20};
     if (!n->drive.packet || x->command[0] == INQUIRY || x->command[0] == PASS_THROUGH_16)
         return 0;
-    x->status = CHECK_CONDITION;
+    x->status = PIONGSEUT_CHECK_CONDITION;
     memcpy(x->sense, unknown, sizeof unknown);
     return 1;
 }
@@ -185,11 +183,11 @@ static void report(sg_io_hdr_t *h, const exchange *x)
     h->host_status = 0;
     h->driver_status = 0;
     h->sb_len_wr = 0;
-    if (x->status == NO_STATUS) { /* no status came back: the adapter reports an error */
-        h->status = GOOD;
+    if (x->status == PIONGSEUT_NONE) { /* no status came back: the adapter reports an error */
+        h->status = PIONGSEUT_GOOD;
         h->host_status = DID_ERROR;
     }
-    if (h->status == CHECK_CONDITION) {
+    if (h->status == PIONGSEUT_CHECK_CONDITION) {
         h->driver_status = DRIVER_SENSE;
         if (h->sbp) {
             h->sb_len_wr = (unsigned char)(sense < h->mx_sb_len ? sense : h->mx_sb_len);
@@ -208,25 +206,25 @@ static int host_direction(const sg_io_hdr_t *h)
     switch (h->dxfer_direction) {
     case SG_DXFER_FROM_DEV:
     case SG_DXFER_TO_FROM_DEV:
-        return FROM_DRIVE;
+        return PIONGSEUT_DIRECTION_FROM_DRIVE;
     case SG_DXFER_TO_DEV:
-        return TO_DRIVE;
+        return PIONGSEUT_DIRECTION_TO_DRIVE;
     default:
-        return NO_DATA;
+        return PIONGSEUT_DIRECTION_NONE;
     }
 }
 
 static int answer_sg_io(node *n, sg_io_hdr_t *h)
 {
     exchange x = {.command = h->cmdp, .command_size = h->cmd_len, .data = h->dxferp,
-                  .direction = host_direction(h), .status = NO_STATUS};
+                  .direction = host_direction(h), .status = PIONGSEUT_NONE};
     /* a header of version 4 has 'Q' here; kernels that know only version 3 refuse it so */
     if (h->interface_id != 'S' || h->iovec_count || h->dxfer_len > MOST || !h->cmd_len ||
         (h->dxfer_len && !h->dxferp)) {
         errno = EINVAL;
         return -1;
     }
-    x.declared = x.direction == NO_DATA ? 0 : h->dxfer_len;
+    x.declared = x.direction == PIONGSEUT_DIRECTION_NONE ? 0 : h->dxfer_len;
     if (!drive_answers(n, &x)) {
         if (x.command[0] == INQUIRY)
             inquire(n, &x);

@@ -96,9 +96,9 @@ static void say_order(const char *whose, piongseut_order order)
 }
 
 /* The record goes to and fro as the bytes that it is made of. */
-static piongseut_pending next_record(void)
+static piongseut_record next_record(void)
 {
-    piongseut_pending record;
+    piongseut_record record;
     piece lent = next_piece();
     if (lent.size != sizeof record)
         exit(1);
@@ -107,7 +107,7 @@ static piongseut_pending next_record(void)
     return record;
 }
 
-static void say_record(piongseut_pending record)
+static void say_record(piongseut_record record)
 {
     say("state", record.state);
     say_order("held", record.order);
@@ -118,7 +118,7 @@ static void say_record(piongseut_pending record)
 static void empty(void)
 {
     piongseut_intake intake = piongseut_intake_empty();
-    say_record(piongseut_empty());
+    say_record(piongseut_record_empty());
     say("have", intake.have);
     say("sum", intake.sum);
 }
@@ -145,15 +145,15 @@ static void inquiry(void)
 
 static void submit(void)
 {
-    piongseut_pending record = next_record();
+    piongseut_record record = next_record();
     piece command = next_piece(), registers = next_piece();
     unsigned long declared = next_number();
     piece sense = next_piece();
-    piongseut_taken taken = piongseut_submit(&record, command.bytes, command.size, registers.bytes, registers.size,
-                                             (uint32_t)declared, sense.bytes, sense.size);
-    say("number", taken.number);
-    say("status", taken.status);
-    say_order("order", taken.order);
+    piongseut_submit_answer answer = piongseut_submit(&record, command.bytes, command.size, registers.bytes, registers.size,
+                                                      (uint32_t)declared, sense.bytes, sense.size);
+    say("number", answer.number);
+    say("status", answer.status);
+    say_order("order", answer.order);
     say_record(record);
     say_piece("sense", sense);
     free(command.bytes);
@@ -162,11 +162,11 @@ static void submit(void)
 
 static void complete(void)
 {
-    piongseut_pending record = next_record();
+    piongseut_record record = next_record();
     piece registers = next_piece(), sense = next_piece();
-    piongseut_ended ended = piongseut_complete(&record, registers.bytes, registers.size, sense.bytes, sense.size);
-    say("number", ended.number);
-    say("status", ended.status);
+    piongseut_complete_answer answer = piongseut_complete(&record, registers.bytes, registers.size, sense.bytes, sense.size);
+    say("number", answer.number);
+    say("status", answer.status);
     say_record(record);
     say_piece("sense", sense);
     free(registers.bytes);
@@ -175,9 +175,9 @@ static void complete(void)
 static void write83(void)
 {
     piece block = next_piece(), room = next_piece();
-    piongseut_written written = piongseut_write_page83(block.bytes, block.size, room.bytes, room.size);
-    say("number", written.number);
-    say("count", written.count);
+    piongseut_write_page83_answer answer = piongseut_write_page83(block.bytes, block.size, room.bytes, room.size);
+    say("number", answer.number);
+    say("count", answer.count);
     say_piece("room", room);
     free(block.bytes);
 }
@@ -185,10 +185,10 @@ static void write83(void)
 static void read83(void)
 {
     piece page = next_piece();
-    piongseut_name name = piongseut_read_page83(page.bytes, page.size);
-    say("number", name.number);
-    say("form", name.form);
-    say_bytes("name", name.name, sizeof name.name);
+    piongseut_read_page83_answer answer = piongseut_read_page83(page.bytes, page.size);
+    say("number", answer.number);
+    say("form", answer.form);
+    say_bytes("name", answer.name, sizeof answer.name);
     free(page.bytes);
 }
 
@@ -219,7 +219,7 @@ static void take(void)
 {
     piongseut_intake intake = next_intake();
     piece store = next_piece(), run = next_piece();
-    piongseut_intake_answer answer = piongseut_intake_take(intake, store.bytes, store.size, run.bytes, run.size);
+    piongseut_intake_take_answer answer = piongseut_intake_take(intake, store.bytes, store.size, run.bytes, run.size);
     say("number", answer.number);
     say("used", answer.used);
     say("complete", answer.complete);
@@ -232,19 +232,19 @@ static void take(void)
 static void block(void)
 {
     piongseut_intake intake = next_intake();
-    piongseut_intake_count offered = piongseut_intake_block(intake, next_number());
-    say("number", offered.number);
-    say("count", offered.count);
+    piongseut_intake_block_answer answer = piongseut_intake_block(intake, next_number());
+    say("number", answer.number);
+    say("count", answer.count);
 }
 
 static void gather(void)
 {
     numbers haves = next_numbers();
     piece stores = next_piece(), room = next_piece();
-    piongseut_intake_count gathered =
+    piongseut_intake_gather_answer answer =
         piongseut_intake_gather(haves.numbers, haves.count, stores.bytes, stores.size, room.bytes, room.size);
-    say("number", gathered.number);
-    say("count", gathered.count);
+    say("number", answer.number);
+    say("count", answer.count);
     say_piece("room", room);
     free(haves.numbers);
     free(stores.bytes);

@@ -18,12 +18,7 @@
 #include <string.h>
 #include <unistd.h>
 
-_Static_assert(sizeof(piongseut_order) == 24, "an order has padding");
-_Static_assert(sizeof(piongseut_pending) == 28, "a record has padding");
-_Static_assert(sizeof(piongseut_intake) == 4, "an intake has padding");
-_Static_assert(sizeof(piongseut_intake_answer) == 8, "the answer of an intake has padding");
-
-enum { EMPTY, INQUIRY, SUBMIT, COMPLETE, WRITE, READ, ROLL, INTAKE_EMPTY, INTAKE_TAKE, INTAKE_INQUIRY, INTAKE_ROLL, FUNCTIONS };
+enum { RECORD_EMPTY, INQUIRY, SUBMIT, COMPLETE, WRITE, READ, ROLL, INTAKE_EMPTY, INTAKE_TAKE, INTAKE_INQUIRY, INTAKE_ROLL, FUNCTIONS };
 
 #define GUARD 64
 #define PIECES 7
@@ -39,7 +34,7 @@ static uint8_t guard[GUARD];
 
 static struct {
     uint8_t before[GUARD];
-    piongseut_pending record;
+    piongseut_record record;
     uint8_t after[GUARD];
 } kept;
 
@@ -92,7 +87,7 @@ static void take_order(piongseut_order *order)
 
 static void take_record(int keep)
 {
-    piongseut_pending sent;
+    piongseut_record sent;
     sent.state = (uint32_t)take(4);
     take_order(&sent.order);
     if (!keep)
@@ -175,7 +170,7 @@ static void put_order(const piongseut_order *order)
     put(order->direction, 1);
 }
 
-static void put_record(const piongseut_pending *record)
+static void put_record(const piongseut_record *record)
 {
     put(record->state, 4);
     put_order(&record->order);
@@ -187,10 +182,10 @@ static void put_intake(piongseut_intake of)
     put(of.sum, 2);
 }
 
-static void put_count(piongseut_intake_count of)
+static void put_count(uint8_t number, size_t count)
 {
-    put(of.number, 1);
-    put(of.count, 8);
+    put(number, 1);
+    put(count, 8);
 }
 
 static void put_inquiry(piongseut_inquiry_answer answer)
@@ -233,8 +228,8 @@ static void note(unsigned function, size_t depth)
 static void tell_stack(void)
 {
     static const char *const names[FUNCTIONS] = {
-        "empty", "inquiry",      "submit",      "complete",     "write_page83", "read_page83",
-        "roll",  "intake_empty", "intake_take", "intake_block", "intake_gather",
+        "record_empty", "inquiry",      "submit",      "complete",     "write_page83", "read_page83",
+        "roll",         "intake_empty", "intake_take", "intake_block", "intake_gather",
     };
     for (unsigned at = 0; at < FUNCTIONS; at++)
         fprintf(stderr, "piongseut_%s %zu %lu\n", names[at], used[at].deepest, used[at].calls);
@@ -266,37 +261,36 @@ static void call_inquiry(void)
 
 static void call_submit(uint32_t declared)
 {
-    piongseut_taken taken;
-    CALL(SUBMIT, taken = piongseut_submit(&kept.record, LENT(0), LENT(1), declared, LENT(2)));
-    put(taken.number, 1);
-    put(taken.status, 1);
-    put_order(&taken.order);
+    piongseut_submit_answer answer;
+    CALL(SUBMIT, answer = piongseut_submit(&kept.record, LENT(0), LENT(1), declared, LENT(2)));
+    put(answer.number, 1);
+    put(answer.status, 1);
+    put_order(&answer.order);
 }
 
 static void call_complete(void)
 {
-    piongseut_ended ended;
-    CALL(COMPLETE, ended = piongseut_complete(&kept.record, LENT(0), LENT(1)));
-    put(ended.number, 1);
-    put(ended.status, 1);
+    piongseut_complete_answer answer;
+    CALL(COMPLETE, answer = piongseut_complete(&kept.record, LENT(0), LENT(1)));
+    put(answer.number, 1);
+    put(answer.status, 1);
 }
 
 static void call_write(void)
 {
-    piongseut_written written;
-    CALL(WRITE, written = piongseut_write_page83(LENT(0), LENT(1)));
-    put(written.number, 1);
-    put(written.count, 8);
+    piongseut_write_page83_answer answer;
+    CALL(WRITE, answer = piongseut_write_page83(LENT(0), LENT(1)));
+    put_count(answer.number, answer.count);
 }
 
 static void call_read(void)
 {
-    piongseut_name name;
-    CALL(READ, name = piongseut_read_page83(LENT(0)));
-    put(name.number, 1);
-    put(name.form, 1);
-    for (unsigned at = 0; at < sizeof name.name; at++)
-        put(name.name[at], 1);
+    piongseut_read_page83_answer answer;
+    CALL(READ, answer = piongseut_read_page83(LENT(0)));
+    put(answer.number, 1);
+    put(answer.form, 1);
+    for (unsigned at = 0; at < sizeof answer.name; at++)
+        put(answer.name[at], 1);
 }
 
 static void call_roll(void)
@@ -315,7 +309,7 @@ static void call_intake_empty(void)
 
 static void call_intake_take(void)
 {
-    piongseut_intake_answer answer;
+    piongseut_intake_take_answer answer;
     CALL(INTAKE_TAKE, answer = piongseut_intake_take(intake, LENT(0), LENT(1)));
     put_intake(answer.next);
     put(answer.used, 2);
@@ -325,33 +319,33 @@ static void call_intake_take(void)
 
 static void call_intake_inquiry(void)
 {
-    piongseut_intake_count block;
-    piongseut_inquiry_answer answer = {1, PIONGSEUT_NONE, 1, 0};
+    piongseut_intake_block_answer block;
+    piongseut_inquiry_answer answer = {PIONGSEUT_REFUSED_SIZE, PIONGSEUT_NONE, PIONGSEUT_SHOWN_ROOM, 0};
     CALL(INTAKE_INQUIRY, block = piongseut_intake_block(intake, piece[0].size));
-    if (block.number == 0)
+    if (block.number == PIONGSEUT_ACCEPTED)
         CALL(INQUIRY, answer = piongseut_inquiry(LENT(1), piece[0].at, block.count, LENT(2), LENT(3), LENT(4), LENT(5), LENT(6)));
-    put_count(block);
+    put_count(block.number, block.count);
     put_inquiry(answer);
 }
 
 static void call_intake_roll(void)
 {
-    piongseut_intake_count gathered;
+    piongseut_intake_gather_answer gathered;
     piongseut_roll_answer answer = {0, 0, 0};
     CALL(INTAKE_ROLL, gathered = piongseut_intake_gather(LENT_SIXTEEN(0), LENT(1), LENT(2)));
     answer.number = gathered.number;
-    if (gathered.number == 0)
+    if (gathered.number == PIONGSEUT_ACCEPTED)
         CALL(ROLL, answer = piongseut_roll(piece[2].at, gathered.count, LENT_SIXTEEN(3)));
-    put_count(gathered);
+    put_count(gathered.number, gathered.count);
     put_roll(answer);
 }
 
 static void call(unsigned function, uint32_t declared)
 {
-    piongseut_pending empty;
+    piongseut_record empty;
     switch (function) {
-    case EMPTY:
-        CALL(EMPTY, empty = piongseut_empty());
+    case RECORD_EMPTY:
+        CALL(RECORD_EMPTY, empty = piongseut_record_empty());
         put_record(&empty);
         break;
     case INQUIRY: call_inquiry(); break;
@@ -382,7 +376,7 @@ static void spoil(unsigned function)
         piece[0].at[piece[0].size - 1] ^= 1;
     if (BOARD_FAULT == 4 && function == COMPLETE)
         kept.after[0] ^= 1;
-    if (BOARD_FAULT == 5 && function == READ && piece[0].size == 17)
+    if (BOARD_FAULT == 5 && function == READ && piece[0].size == PIONGSEUT_PAGE83_WWN_SIZE + 1)
         _exit(4);
 }
 #else

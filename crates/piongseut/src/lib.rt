@@ -42,7 +42,7 @@ pub extern "C" fn piongseut_inquiry(
 
 // A record that holds nothing.
 #[no_mangle]
-pub extern "C" fn piongseut_empty() -> Pending
+pub extern "C" fn piongseut_record_empty() -> Pending
     ensures { λ r. ⌜ r ≡ empty ⌝ }
 {
     Pending::empty()
