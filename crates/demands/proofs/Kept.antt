@@ -7,6 +7,7 @@ use Rattle.demands.proofs.Inquiry.{within-allocation, pages-of-inquiry}
 use Rattle.demands.proofs.Order.{direction-from-the-fields, only-the-command-differs, own-flags, completed-with-its-own-fields, none-taken-while-pending, protocol-15-keeps-the-record}
 use Rattle.demands.proofs.Page83.{reads-back, accepted-is-written, pages-of-the-writer}
 use Rattle.demands.proofs.Roll.{roll-of-drives}
+use Rattle.demands.proofs.Stream.{stream-of-runs, inquiry-from-a-stream, roll-of-streams}
 
 settled : {O : Type 0} (outcome : O) → Settled outcome
 settled outcome a b p q = p ∙ sym q
@@ -46,4 +47,7 @@ kept =
       roll-of-drives = roll-of-drives;
       pages-of-the-writer = pages-of-the-writer;
       pages-of-inquiry = pages-of-inquiry;
+      stream-of-runs = stream-of-runs;
+      inquiry-from-a-stream = inquiry-from-a-stream;
+      roll-of-streams = roll-of-streams;
     }

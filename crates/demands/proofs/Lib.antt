@@ -5,4 +5,5 @@ pub mod Inquiry
 pub mod Order
 pub mod Page83
 pub mod Roll
+pub mod Stream
 pub mod Kept

@@ -5,8 +5,11 @@ use mathlib.Core.Path.{_≡_}
 use mathlib.Core.Bool.{Bool, true, false, cond}
 use mathlib.Core.Logic.{_↔_}
 use mathlib.Core.List.{List, [], _∷_, _++_}
-use Prim.Native.Nat.{ℕ, suc, _*_, _/_, _≤_, _<_}
+use Prim.Native.Nat.{ℕ, suc, _*_, _-_, _/_, _%_, _≤_, _<_}
+use lib.Dec.{leb}
 use lib.ListN.{length, getD, take, set}
+use Rattle.rules.specs.Bits.{flag}
+use Rattle.room.specs.Room.{written}
 use Rattle.texts.specs.Text.{turned, spaced}
 use Rattle.identify.specs.Block.{serial, model, name}
 use Rattle.identify.specs.Drive.{carriesName, sameDrive}
@@ -15,7 +18,7 @@ use Rattle.page83.specs.Page83.{write}
 use Rattle.page83_reader.specs.declared.Name.{Name}
 use Rattle.page83_reader.specs.Reader.{inSixty, read}
 use Rattle.inquiry_fields.specs.Fields.{evpd, pageCode, allocation}
-use Rattle.inquiry_checks.specs.Request.{Request, isPacket}
+use Rattle.inquiry_checks.specs.Request.{Request, request, isPacket}
 use Rattle.inquiry.specs.Inquiry as Inquiry
 use Rattle.inquiry.specs.Inquiry.{inquiry, part}
 use Rattle.passthrough_fields.specs.Fields.{long, size, protocol, tDir, ckCond, extend}
@@ -31,9 +34,12 @@ use Rattle.roll.specs.Roll as Roll
 use Rattle.roll.specs.Roll.{roll, blockAt}
 use Rattle.intake.specs.declared.Intake.{Intake}
 use Rattle.intake.specs.Intake as Intake
-use Rattle.intake.specs.Intake.{taken}
+use Rattle.intake.specs.declared.Took.{Took}
+use Rattle.intake.specs.Intake.{taken, sumOf}
+use Rattle.intake.specs.Stream.{begin, step, runs, stream}
 use Rattle.received.specs.Received as Received
 use Rattle.received.specs.Received.{inquiryOf, gatherOf, rollOf}
+use Rattle.received.specs.Stream.{Bay, Stores, havesOf, storesOf, blockIn, blocksOf}
 use Rattle.demands.specs.Soundings.{SoundingsHold}
 
 -- A number that came back is a refusal's.
@@ -228,6 +234,35 @@ shown q o = part (q .reply) (o .room) (o .answer .shown) (o .answer .count)
 abbrev pub PagesOfInquiry : Type 0
 PagesOfInquiry = (q r : Request) (room sense other-room other-sense : List ℕ) → AsksItsName q → AsksItsName r → inquiry q room sense .answer .number ≡ 0 → inquiry r other-room other-sense .answer .number ≡ 0 → (shown q (inquiry q room sense) ≡ shown r (inquiry r other-room other-sense)) ↔ (sameDrive (q .block) (r .block) ≡ true)
 
+-- ## The intake: a stream in runs
+
+-- The answer to the next run, after the runs before it.
+abbrev pub answerTo : List ℕ → List (List ℕ) → List ℕ → Took
+answerTo store before run = taken (runs (begin store) before .intake) (runs (begin store) before .store) run .took
+
+-- Of an empty intake over a store of 512 bytes, and a stream in runs, runs of no bytes among them:
+pub record Streamed (store : List ℕ) : Type 0 where
+  -- however the stream is divided, the intake, the store and the bytes used in all are those of a single run,
+  pub however-divided : (rs : List (List ℕ)) → runs (begin store) rs ≡ step (begin store) (stream rs)
+  -- which are the stream's first 512 bytes in their order, or all of a shorter one, and their sum modulo 256;
+  pub single-run : (s : List ℕ) → step (begin store) s ≡ record { intake = Intake.intake (length (take 512 s)) (sumOf (take 512 s) % 256); store = written store 0 (take 512 s); used = length (take 512 s) }
+  -- no run is refused, and complete is reported from exactly the run that brings byte 512;
+  pub never-refused : (before : List (List ℕ)) (run : List ℕ) → answerTo store before run .number ≡ 0
+  pub complete-from-byte-512 : (before : List (List ℕ)) (run : List ℕ) → answerTo store before run .complete ≡ flag (leb 512 (length (stream before ++ run)))
+  -- of each run the bytes are used that the block still lacked.
+  pub used-of-a-run : (before : List (List ℕ)) (run : List ℕ) → answerTo store before run .used ≡ length (take 512 (stream before ++ run)) - length (take 512 (stream before))
+
+abbrev pub StreamOfRuns : Type 0
+StreamOfRuns = (store : List ℕ) → length store ≡ 512 → Streamed store
+
+-- INQUIRY from an intake is INQUIRY from the block that its stream brings: the first 512 bytes, or none before they are there.
+abbrev pub InquiryFromAStream : Type 0
+InquiryFromAStream = (store : List ℕ) → length store ≡ 512 → (rs : List (List ℕ)) (command signature texts reply room sense : List ℕ) → inquiryOf (runs (begin store) rs .intake .have) (runs (begin store) rs .store) command signature texts reply room sense ≡ inquiry (request command (blockIn (stream rs)) signature texts reply) room sense
+
+-- And so is the roll of several bays, each with a stream of its own, in room that holds their blocks; refusals too.
+abbrev pub RollOfStreams : Type 0
+RollOfStreams = (bays : List Bay) → Stores bays → (room rows : List ℕ) → length (blocksOf bays) ≤ length room → (rollOf (havesOf bays) (storesOf bays) room rows .counted ≡ roll (blocksOf bays) rows .counted) × (rollOf (havesOf bays) (storesOf bays) room rows .rows ≡ roll (blocksOf bays) rows .room)
+
 -- ## All of them
 
 pub record Promises : Type 0 where
@@ -246,3 +281,6 @@ pub record Promises : Type 0 where
   pub roll-of-drives : RollOfDrives
   pub pages-of-the-writer : PagesOfTheWriter
   pub pages-of-inquiry : PagesOfInquiry
+  pub stream-of-runs : StreamOfRuns
+  pub inquiry-from-a-stream : InquiryFromAStream
+  pub roll-of-streams : RollOfStreams
