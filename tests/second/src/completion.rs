@@ -1,4 +1,4 @@
-//! Completion of an order, and the sense of 22 bytes.
+//! Completion of an order (RULES 9), and sense data of 22 bytes (RULES 10).
 
 use crate::order::Record;
 use crate::{fault, lent, refusal};
@@ -10,12 +10,12 @@ pub struct Ended {
     pub status: u8,
 }
 
-/// Completes the pending order. "completion empties it [the record]".
+/// Completes the pending order; the record is empty then.
 pub fn complete(record: &mut Record, registers: &[u8], sense: &mut [u8]) -> Ended {
     if !lent::registers_size_is_right(registers) || !lent::sense_size_is_right(sense) {
         return refuse(refusal::SIZE, sense);
     }
-    // 15: "completion while nothing is pending".
+    // There is nothing to complete: 15 (RULES 3).
     if !record.is_pending() || fault::planted("complete-refuses-all") {
         return refuse(refusal::NOTHING_PENDING, sense);
     }
@@ -24,9 +24,8 @@ pub fn complete(record: &mut Record, registers: &[u8], sense: &mut [u8]) -> Ende
     ended
 }
 
-/// "If status bit 0 or 5 is one: CHECK CONDITION, key 0B, 00/00 (*house*).
-/// Else if CK_COND: CHECK CONDITION, key 01, 00/1D. Else GOOD, sense
-/// untouched."
+/// An error of the drive is told whether or not the host asked for the
+/// registers; without one they are told where it did, by CK_COND (RULES 9).
 fn end(record: &Record, registers: &[u8], sense: &mut [u8]) -> Ended {
     let extend = record.order.extend != 0;
     if has_error(registers) {
@@ -40,8 +39,8 @@ fn end(record: &Record, registers: &[u8], sense: &mut [u8]) -> Ended {
     accept(refusal::GOOD)
 }
 
-/// "status bit 0 or 5 is one"; the status is the last register, descriptor
-/// byte 13.
+/// The drive's status is the last of the lent registers (RULES 1); bits 0 and
+/// 5 tell of an error (RULES 9).
 fn has_error(registers: &[u8]) -> bool {
     let status = registers[10];
     status & 0x01 != 0 || status & 0x20 != 0
@@ -62,10 +61,8 @@ fn refuse(number: u8, sense: &mut [u8]) -> Ended {
     }
 }
 
-/// "Sense is 22 bytes: `72 key ASC ASCQ 00 00 00 0E`, then `09 0C`, EXTEND as
-/// 00 or 01, error, count high, count low, LBA low high/low, mid high/low,
-/// high high/low, device, status. With EXTEND zero the four upper bytes are
-/// 00."
+/// A report: eight head bytes, then a descriptor of 14 bytes with EXTEND and
+/// the registers (RULES 10).
 pub fn write_descriptor_sense(
     key_asc_ascq: [u8; 3],
     extend: bool,
@@ -78,7 +75,7 @@ pub fn write_descriptor_sense(
     let [key, asc, ascq] = key_asc_ascq;
     sense[..8].copy_from_slice(&[0x72, key, asc, ascq, 0x00, 0x00, 0x00, 0x0E]);
     sense[8..11].copy_from_slice(&[0x09, 0x0C, u8::from(extend)]);
-    // The registers come "in the order of descriptor bytes 3 to 13".
+    // They are lent in the order in which they stand here.
     sense[11..22].copy_from_slice(registers);
     if !extend && !fault::planted("upper-bytes-without-extend") {
         sense[12] = 0x00; // count high

@@ -1,10 +1,7 @@
 //! Faults that are planted on purpose, one at a time, to see that the
 //! comparison finds them. Without the feature `faults` there is none.
 
-use std::sync::OnceLock;
-
-/// Wrong boards of document 01 ("These must not satisfy it"), its easy slips,
-/// and some more.
+/// The wrong boards and the easy slips that document 01 names, and some more.
 pub const NAMES: &[&str] = &[
     "inquiry-refuses-all",
     "submit-refuses-all",
@@ -56,10 +53,10 @@ pub const NAMES: &[&str] = &[
 
 /// Whether this fault is planted: named by the variable SECOND_FAULT.
 pub fn planted(name: &str) -> bool {
-    cfg!(feature = "faults") && chosen() == name
+    cfg!(feature = "faults") && CHOSEN.with(|chosen| chosen == name)
 }
 
-fn chosen() -> &'static str {
-    static CHOSEN: OnceLock<String> = OnceLock::new();
-    CHOSEN.get_or_init(|| std::env::var("SECOND_FAULT").unwrap_or_default())
+thread_local! {
+    // Read once, since every rule asks for it.
+    static CHOSEN: String = std::env::var("SECOND_FAULT").unwrap_or_default();
 }

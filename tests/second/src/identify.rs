@@ -1,14 +1,14 @@
-//! The fields of an IDENTIFY block of 512 bytes.
+//! The fields of an IDENTIFY block of 512 bytes (RULES 5).
 
-/// "IDENTIFY word w is bytes 2w (bits 7:0) and 2w+1 (bits 15:8)."
+/// A word has its low byte first.
 pub fn word(block: &[u8], w: usize) -> u16 {
     let low = u16::from(block[2 * w]);
     let high = u16::from(block[2 * w + 1]);
     (high << 8) | low
 }
 
-/// Words `first` to `last`, each word high byte first. For a text: "A *turned*
-/// text has the two bytes of each word exchanged."
+/// Words `first` to `last`, each high byte first: so a text's letters come to
+/// stand as they are read.
 pub fn turned(block: &[u8], first: usize, last: usize) -> Vec<u8> {
     let mut bytes = Vec::new();
     for w in first..=last {
@@ -19,27 +19,27 @@ pub fn turned(block: &[u8], first: usize, last: usize) -> Vec<u8> {
     bytes
 }
 
-/// "Serial: words 10-19."
+/// The serial number, 20 letters.
 pub fn turned_serial(block: &[u8]) -> Vec<u8> {
     turned(block, 10, 19)
 }
 
-/// "Model: words 27-46."
+/// The model, 40 letters.
 pub fn turned_model(block: &[u8]) -> Vec<u8> {
     turned(block, 27, 46)
 }
 
-/// "Name: words 108-111."
+/// The world wide name, 8 bytes.
 pub fn turned_name(block: &[u8]) -> Vec<u8> {
     turned(block, 108, 111)
 }
 
-/// "If any bit of words 108-111 is one".
+/// A name of zeros is none.
 pub fn has_name(block: &[u8]) -> bool {
     (108..=111).any(|w| word(block, w) != 0)
 }
 
-/// "zero bytes as spaces"; "each 00h made 20h".
+/// What a text that is spaced has for this byte.
 pub fn space_for_zero(byte: u8) -> u8 {
     if byte == 0x00 {
         0x20

@@ -1,11 +1,11 @@
-//! INQUIRY: "12h, 6 bytes".
+//! INQUIRY (RULES 4), for packet drives too (RULES 7).
 
 use crate::packet::is_packet_drive;
 use crate::{fault, lent, packet, page83, pages, refusal};
 
-/// `shown` for "a part of the drive's reply".
+/// `shown` where the drive's own reply is shown.
 pub const SHOWS_REPLY: u8 = 0;
-/// `shown` for "a part of the output room".
+/// `shown` where the room is.
 pub const SHOWS_ROOM: u8 = 1;
 
 /// The answer to INQUIRY: the first `count` bytes of what `shown` names.
@@ -17,8 +17,7 @@ pub struct Inquiry {
     pub count: usize,
 }
 
-/// "byte 1 bit 0 EVPD, bit 1 CMDDT, byte 2 page code, bytes 3-4 allocation
-/// length (high byte first), byte 5 control. Other bits are ignored (*house*)."
+/// The fields of the command that count (RULES 4).
 struct Asked {
     evpd: bool,
     cmddt: bool,
@@ -74,8 +73,7 @@ fn the_drive_answered_for(block: &[u8]) -> &[u8] {
     block
 }
 
-/// 1: "a lent piece breaks the sizes above". The reply and the output room
-/// have no size rule.
+/// The reply and the output room may have any size (RULES 1).
 fn sizes_are_right(block: &[u8], signature: &[u8], texts: &[u8], sense: &[u8]) -> bool {
     lent::block_size_is_right(block)
         && lent::signature_size_is_right(signature)
@@ -83,8 +81,8 @@ fn sizes_are_right(block: &[u8], signature: &[u8], texts: &[u8], sense: &[u8]) -
         && lent::sense_size_is_right(sense)
 }
 
-/// "empty command 2; opcode 3; short command 2"; "Command bytes beyond the
-/// command's size are ignored."
+/// An opcode of another command is told before a missing byte, so a command
+/// of one byte may give 3 (RULES 3). What stands behind byte 5 is not read.
 fn read_command(command: &[u8]) -> Result<Asked, u8> {
     if command.is_empty() {
         return Err(refusal::SHORT);
@@ -119,8 +117,7 @@ fn plain_answer(asked: &Asked, block: &[u8], signature: &[u8], texts: &[u8]) -> 
     Ok(cut(page, asked))
 }
 
-/// 4: "NACA (control byte bit 2) is one; for INQUIRY also CMDDT one, or EVPD
-/// zero with a page code not 00h".
+/// 4: the fields ask for what the board never does (RULES 4).
 fn check_fields(asked: &Asked) -> Result<(), u8> {
     if asked.naca || asked.cmddt || (!asked.evpd && asked.page_code != 0x00) {
         return Err(refusal::FIELD);
@@ -128,7 +125,7 @@ fn check_fields(asked: &Asked) -> Result<(), u8> {
     Ok(())
 }
 
-/// 5: "EVPD one and the page is not 00h, 80h, 83h, 89h".
+/// 5: a page that is not served (RULES 4).
 fn check_page(asked: &Asked) -> Result<(), u8> {
     if asked.evpd && ![0x00, 0x80, 0x83, 0x89].contains(&asked.page_code) {
         return Err(refusal::PAGE);
@@ -136,7 +133,7 @@ fn check_page(asked: &Asked) -> Result<(), u8> {
     Ok(())
 }
 
-/// 6: "no IDENTIFY block, and standard data, 80h or 83h is asked".
+/// 6: what is asked for is read from a block, and there is none (RULES 4).
 fn check_block(asked: &Asked, block: &[u8]) -> Result<(), u8> {
     let needs_block = !asked.evpd || asked.page_code == 0x80 || asked.page_code == 0x83;
     if block.is_empty() && needs_block {
@@ -145,10 +142,8 @@ fn check_block(asked: &Asked, block: &[u8]) -> Result<(), u8> {
     Ok(())
 }
 
-/// The answer for a packet drive. "Then checks 4 to 6 do not apply. Only EVPD
-/// one, CMDDT zero with page 00h or 89h is served here; all else shows the
-/// first n bytes of the drive's reply, n the lesser of its size and the
-/// allocation length."
+/// The answer for a packet drive (RULES 7): it speaks for itself, but for the
+/// two pages that the board makes; so its asks are not judged by 4 to 6.
 fn packet_answer(
     asked: &Asked,
     block: &[u8],
@@ -158,7 +153,6 @@ fn packet_answer(
 ) -> Result<Answer, u8> {
     match (asked.evpd, asked.cmddt, asked.page_code) {
         (true, false, 0x00) => match packet::page00(reply) {
-            // 7: "page 00h is asked of a packet drive and its own is unusable"
             None => Err(refusal::UNUSABLE),
             Some(page) => Ok(cut(page, asked)),
         },
@@ -170,8 +164,8 @@ fn packet_answer(
     }
 }
 
-/// "The reply is the first n bytes of the full page, n the lesser of page size
-/// and allocation length. Length fields inside keep the full value."
+/// The front of a page, as much as the host takes; what the page says of its
+/// own length stays (RULES 4).
 fn cut(mut page: Vec<u8>, asked: &Asked) -> Answer {
     page.truncate(asked.allocation);
     if fault::planted("length-field-shrinks-with-the-cut") && asked.evpd && page.len() > 3 {
@@ -181,8 +175,8 @@ fn cut(mut page: Vec<u8>, asked: &Asked) -> Answer {
     Answer::Page(page)
 }
 
-/// 8: "output room is shorter than the bytes to write"; else "Output past n is
-/// untouched. Allocation length 0 is GOOD with nothing written."
+/// 8 where these bytes do not fit; else they are written, and the room behind
+/// them stays (RULES 4).
 fn write(bytes: &[u8], room: &mut [u8], sense: &mut [u8]) -> Inquiry {
     let whole_page_wanted = fault::planted("room-for-the-whole-page") && room.len() < 572;
     if room.len() < bytes.len() || whole_page_wanted {
@@ -204,8 +198,7 @@ fn accept(shown: u8, count: usize) -> Inquiry {
     }
 }
 
-/// "A refusal returns an empty part of the output room where a part is
-/// returned".
+/// A refusal shows none of the room's bytes (RULES 2).
 fn refuse(number: u8, sense: &mut [u8]) -> Inquiry {
     refusal::write_sense(number, sense);
     Inquiry {

@@ -1,10 +1,8 @@
-//! The intake (request L6): IDENTIFY data taken as it comes off the wire. What
-//! is quoted stands in request L6 of document 02 or, where that is said, in
-//! the words of the C header.
+//! The intake (RULES 12): IDENTIFY data taken as it comes off the wire.
 
 use crate::{fault, refusal};
 
-/// "reports complete at byte 512"
+/// An intake with so many bytes is complete.
 const BLOCK: usize = 512;
 
 /// An intake without its store, which the caller keeps: how many of the
@@ -48,9 +46,8 @@ pub fn intake_empty() -> Intake {
     Intake { have: 0, sum: 0 }
 }
 
-/// Takes a run: "takes runs one after another, zero-length runs too, holds
-/// what it has, and reports complete at byte 512 together with how many bytes
-/// of the run it used".
+/// Takes a run's front, as much as the intake still lacks, and tells how much
+/// that was.
 pub fn intake_take(intake: Intake, store: &mut [u8], run: &[u8]) -> RunTaken {
     if !is_right(intake.have, store.len()) || fault::planted("intake-refuses-all") {
         return RunTaken {
@@ -61,7 +58,6 @@ pub fn intake_take(intake: Intake, store: &mut [u8], run: &[u8]) -> RunTaken {
         };
     }
     let have = had(intake);
-    // "the stream's first 512 bytes in their order, or all of a shorter one"
     let used = run.len().min(BLOCK - have);
     write(store, have, &run[..used]);
     let next = Intake {
@@ -76,14 +72,13 @@ pub fn intake_take(intake: Intake, store: &mut [u8], run: &[u8]) -> RunTaken {
     }
 }
 
-/// Refusal 1: "An intake that claims more than 512 bytes", and a store that is
-/// not of 512 bytes (the header).
+/// Else 1: the store could not hold what the intake says it has.
 fn is_right(have: u16, store_size: usize) -> bool {
     store_size == BLOCK && usize::from(have) <= BLOCK
 }
 
-/// What the intake has: "after that [completion] it uses nothing until
-/// emptied". The planted fault begins again at a complete one.
+/// What the intake has. The planted fault begins again at a complete one,
+/// which is to use nothing.
 fn had(intake: Intake) -> usize {
     let have = usize::from(intake.have);
     if fault::planted("intake-takes-after-completion") && have == BLOCK {
@@ -92,7 +87,7 @@ fn had(intake: Intake) -> usize {
     have
 }
 
-/// "only those [bytes] that the run's bytes go to are written" (the header).
+/// Behind what the intake has; no other byte of the store changes.
 fn write(store: &mut [u8], have: usize, bytes: &[u8]) {
     let start = if fault::planted("intake-stores-at-the-start") {
         0
@@ -112,8 +107,7 @@ fn summed(run: &[u8], used: usize) -> &[u8] {
     &run[..used]
 }
 
-/// The sum modulo 256, "counted on from the sum that was handed in" (the
-/// header), whatever that was.
+/// The old sum, whatever it was, and these bytes, modulo 256.
 fn counted_on(sum: u16, bytes: &[u8]) -> u16 {
     let total = bytes
         .iter()
@@ -128,8 +122,8 @@ fn reported(run: &[u8], used: usize) -> u16 {
     used as u16
 }
 
-/// How many bytes of its store are an intake's block: "Until complete it gives
-/// 0 bytes as its block". The caller lends them to INQUIRY.
+/// How many bytes of its store are an intake's block: all or none. The caller
+/// lends them to INQUIRY.
 pub fn block_size(intake: Intake, store_size: usize) -> Counted {
     let have = usize::from(intake.have);
     let asked_to_be_complete = fault::planted("block-refuses-until-complete") && have != BLOCK;
@@ -143,13 +137,9 @@ pub fn block_size(intake: Intake, store_size: usize) -> Counted {
     counted(if have == BLOCK || nearly { BLOCK } else { 0 })
 }
 
-/// Gathers the blocks of a run of intakes in the room: "the stores of those
-/// that are complete, in their order", which "come to stand one after the
-/// other; the rest of it is untouched" (the header). The caller lends them to
-/// the roll. A refusal writes nothing.
+/// Gathers the blocks of a run of intakes at the front of the room, for the
+/// caller to lend to the roll. A refusal writes nothing.
 pub fn gather(haves: &[u16], stores: &[u8], room: &mut [u8]) -> Counted {
-    // 1: "stores of another size than 512 bytes an intake; an intake that
-    // claims more than 512" (the header)
     let claims_too_much = |&have: &u16| usize::from(have) > BLOCK;
     if stores.len() != BLOCK * haves.len() || haves.iter().any(claims_too_much) {
         return refused(refusal::SIZE);
@@ -158,7 +148,6 @@ pub fn gather(haves: &[u16], stores: &[u8], room: &mut [u8]) -> Counted {
     if fault::planted("gather-limits-to-64") && blocks.len() > 64 * BLOCK {
         return refused(refusal::SIZE);
     }
-    // 8: "room below the blocks" (the header)
     if room.len() < blocks.len() {
         spoil_refused(&blocks, room);
         return refused(refusal::ROOM);

@@ -2,8 +2,8 @@
 //! in plain Rust, written from the papers alone, so that the proved board can
 //! be compared with it byte for byte.
 //!
-//! Every rule carries the sentence of document 01, or of a request of document
-//! 02, that it stands for, in quotation marks. Nothing here is made to be fast.
+//! "RULES 8.2" is section 8.2 of `docs/RULES.md`, where a rule of the papers is
+//! told. Nothing here is made to be fast.
 
 #![forbid(unsafe_code)]
 

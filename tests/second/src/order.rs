@@ -1,5 +1,4 @@
-//! Pass-through orders: "ATA PASS-THROUGH (12) (A1h, 12 bytes) and (16) (85h,
-//! 16 bytes)".
+//! Pass-through orders, of the 12-byte and the 16-byte command (RULES 8).
 
 use crate::{completion, fault, lent, refusal};
 use std::sync::atomic::{AtomicBool, Ordering};
@@ -9,10 +8,7 @@ pub const NO_DATA: u8 = 0;
 pub const FROM_DRIVE: u8 = 1;
 pub const TO_DRIVE: u8 = 2;
 
-/// "An order holds: protocol, quiet seconds 2^(OFF_LINE+1) - 2, sectors per
-/// block 2^MULTIPLE_COUNT, CK_COND, EXTEND, direction, length in bytes,
-/// registers (two bytes each of features, count and the three LBA parts;
-/// device; command)."
+/// What the board is to do with the drive (RULES 8.3).
 #[derive(Clone, Copy, Debug, Default, PartialEq, Eq)]
 pub struct Order {
     pub length: u32,
@@ -31,8 +27,8 @@ pub struct Order {
     pub direction: u8,
 }
 
-/// "**The pending record.** One order at most." State 0 is nothing pending,
-/// any other state a pending order.
+/// Room for one order, which waits for its completion (RULES 9). State 0 is
+/// nothing pending, any other state a pending order.
 #[derive(Clone, Copy, Debug, Default, PartialEq, Eq)]
 pub struct Record {
     pub state: u32,
@@ -53,8 +49,7 @@ pub struct Taken {
     pub order: Order,
 }
 
-/// The fields of both forms of the command. "Bits not named are ignored
-/// (*house*)."
+/// The fields of both forms of the command (RULES 8.1).
 struct Fields {
     multiple_count: u8,
     protocol: u8,
@@ -74,8 +69,8 @@ struct Fields {
     naca: bool,
 }
 
-/// Takes a pass-through command. "An accepted order fills it [the record], a
-/// refused one does not touch it".
+/// Takes a pass-through command. The record changes only where an order is
+/// accepted (RULES 9).
 pub fn submit(
     record: &mut Record,
     command: &[u8],
@@ -102,7 +97,6 @@ pub fn submit(
         }
         return return_response(registers, sense);
     }
-    // 10: "an order is pending, and PROTOCOL is not 15".
     if record.is_pending() {
         return refuse(refusal::PENDING, sense);
     }
@@ -112,7 +106,7 @@ pub fn submit(
     }
 }
 
-/// "An accepted order fills it [the record]".
+/// Puts an accepted order into the record.
 fn fill(record: &mut Record, order: Order) -> Taken {
     if fault::planted("first-order-only") && is_a_later_one() {
         *record = Record {
@@ -133,7 +127,7 @@ fn is_a_later_one() -> bool {
     TAKEN.swap(true, Ordering::Relaxed)
 }
 
-/// "an order taken has no status until completion"
+/// Its status is for the completion to tell (RULES 2).
 fn take(order: Order) -> Taken {
     Taken {
         number: refusal::ACCEPTED,
@@ -142,7 +136,7 @@ fn take(order: Order) -> Taken {
     }
 }
 
-/// "A refusal returns ... zero for each order field".
+/// A refusal has an order of zeros (RULES 2).
 fn refuse(number: u8, sense: &mut [u8]) -> Taken {
     refusal::write_sense(number, sense);
     Taken {
@@ -152,9 +146,8 @@ fn refuse(number: u8, sense: &mut [u8]) -> Taken {
     }
 }
 
-/// "Protocol 15 makes no order: it answers CHECK CONDITION with key 01, 00/1D
-/// and the lent registers, EXTEND zero, even if an error bit is one (*house*),
-/// and leaves the pending record unchanged."
+/// Protocol 15 only tells the registers that were lent with the command, and
+/// asks nothing of their error bits or of the record (RULES 9).
 fn return_response(registers: &[u8], sense: &mut [u8]) -> Taken {
     completion::write_descriptor_sense([0x01, 0x00, 0x1D], false, registers, sense);
     Taken {
@@ -164,8 +157,8 @@ fn return_response(registers: &[u8], sense: &mut [u8]) -> Taken {
     }
 }
 
-/// "empty command 2; opcode 3; short command 2"; "Command bytes beyond the
-/// command's size are ignored."
+/// The opcode says how many bytes the command has; so 3 comes before the 2 of
+/// a command that is too short (RULES 3). Bytes behind them are not read.
 fn read_command(command: &[u8]) -> Result<Fields, u8> {
     if command.is_empty() {
         return Err(refusal::SHORT);
@@ -185,9 +178,8 @@ fn read_command(command: &[u8]) -> Result<Fields, u8> {
     }
 }
 
-/// "Byte 1: bits 7:5 MULTIPLE_COUNT, 4:1 PROTOCOL, bit 0 EXTEND (16 only).
-/// Byte 2: 7:6 OFF_LINE, 5 CK_COND, 3 T_DIR, 2 BYTE_BLOCK, 1:0 T_LENGTH."
-/// Everything else is left zero.
+/// Bytes 1 and 2, which both forms share but for EXTEND (RULES 8.1). All else
+/// is left zero.
 fn read_first_bytes(command: &[u8]) -> Fields {
     Fields {
         multiple_count: command[1] >> 5,
@@ -209,8 +201,8 @@ fn read_first_bytes(command: &[u8]) -> Fields {
     }
 }
 
-/// "Register bytes as tables 92 and 96 of 004; control is the last byte."
-/// Table 92. "in the 12-byte form, upper register bytes are zero."
+/// The 12-byte form has no upper register bytes (RULES 8.1; table 92 of draft
+/// T10/06-291r2).
 fn read_12(command: &[u8]) -> Fields {
     Fields {
         features: register(0, command[3]),
@@ -225,7 +217,8 @@ fn read_12(command: &[u8]) -> Fields {
     }
 }
 
-/// Table 96. "With EXTEND zero ... upper register bytes are zero."
+/// The 16-byte form's upper register bytes count with EXTEND alone (RULES 8.1;
+/// table 96 of that draft).
 fn read_16(command: &[u8]) -> Fields {
     let extend = command[1] & 0x01 != 0;
     let upper = |at: usize| if extend { command[at] } else { 0 };
@@ -243,22 +236,19 @@ fn read_16(command: &[u8]) -> Fields {
     }
 }
 
-/// "two bytes each of features, count and the three LBA parts"
 fn register(upper: u8, lower: u8) -> u16 {
     u16::from_be_bytes([upper, lower])
 }
 
-/// "NACA (control byte bit 2) is one"
 fn is_naca(control: u8) -> bool {
     control & 0x04 != 0
 }
 
-/// The checks 4 and 9: "then 4 to 16 upward, those that concern the command".
+/// The checks 4 and 9, which come before that of the record (RULES 8.4).
 fn check_command(fields: Fields) -> Result<Fields, u8> {
     if fields.naca {
         return Err(refusal::FIELD);
     }
-    // 9: "PROTOCOL is 2, 7, 12, 13 or 14".
     if [2, 7, 12, 13, 14].contains(&fields.protocol) {
         return Err(refusal::PROTOCOL);
     }
@@ -274,8 +264,8 @@ fn make_order(fields: &Fields, declared: u32) -> Result<Order, u8> {
     }
 }
 
-/// "Protocols 0 and 1: besides the control byte only PROTOCOL and OFF_LINE are
-/// read; the rest of the order is zero, sectors per block 1, direction none."
+/// A reset has no registers to hand on: of the command only PROTOCOL and
+/// OFF_LINE count (RULES 8.3).
 fn reset_order(fields: &Fields) -> Order {
     Order {
         protocol: fields.protocol,
@@ -286,7 +276,7 @@ fn reset_order(fields: &Fields) -> Order {
     }
 }
 
-/// "| 3, 8, 9 | must be 0 | ignored |"
+/// Protocols 3, 8 and 9 move no data, so T_DIR says nothing (RULES 8.4).
 fn non_data_order(fields: &Fields) -> Result<Order, u8> {
     if fields.t_length != 0 {
         return Err(refusal::T_LENGTH);
@@ -294,8 +284,8 @@ fn non_data_order(fields: &Fields) -> Result<Order, u8> {
     Ok(full_order(fields, NO_DATA, 0))
 }
 
-/// "| 4, 10 | not 0 | 1 (from drive) |", "| 5, 11 | not 0 | 0 (to drive) |",
-/// "| 6 | not 0 | either |".
+/// Protocols 4 and 10 bring data, 5 and 11 send it, 6 does as T_DIR says
+/// (RULES 8.4).
 fn data_order(fields: &Fields, declared: u32) -> Result<Order, u8> {
     if fields.t_length == 0 {
         return Err(refusal::T_LENGTH);
@@ -309,11 +299,9 @@ fn data_order(fields: &Fields, declared: u32) -> Result<Order, u8> {
         return Err(refusal::T_DIR);
     }
     let length = length_in_bytes(fields, declared);
-    // 13: "a data protocol with length 0".
     if length == 0 {
         return Err(refusal::LENGTH_ZERO);
     }
-    // 14: "length above the host's declared length".
     if length > declared {
         return Err(refusal::ABOVE_DECLARED);
     }
@@ -326,10 +314,7 @@ fn data_order(fields: &Fields, declared: u32) -> Result<Order, u8> {
     Ok(full_order(fields, direction, length))
 }
 
-/// "T_LENGTH 1 takes the features number, 2 the count: 8 bits, or 16 with
-/// EXTEND." "T_LENGTH 3 takes the host's declared length, a 32-bit byte count,
-/// and ignores BYTE_BLOCK (*house*). Count 0 is length 0 (*house*)." T_LENGTH
-/// is not 0 here.
+/// T_LENGTH says where the length stands (RULES 8.2); it is not 0 here.
 fn length_in_bytes(fields: &Fields, declared: u32) -> u32 {
     if fault::planted("invented-lengths") {
         return 512;
@@ -341,7 +326,7 @@ fn length_in_bytes(fields: &Fields, declared: u32) -> u32 {
     }
 }
 
-/// "BYTE_BLOCK zero means it counts bytes; one, blocks of 512."
+/// BYTE_BLOCK says what the number counts (RULES 8.2).
 fn counted(number: u16, byte_block: bool) -> u32 {
     if fault::planted("count-0-is-256") && number == 0 {
         return counted(256, byte_block);
@@ -353,12 +338,12 @@ fn counted(number: u16, byte_block: bool) -> u32 {
     }
 }
 
-/// "quiet seconds 2^(OFF_LINE+1) - 2"
+/// 0, 2, 6 or 14 (RULES 8.3).
 fn quiet_seconds(off_line: u8) -> u16 {
     (1 << (off_line + 1)) - 2
 }
 
-/// "sectors per block 2^MULTIPLE_COUNT"
+/// 1 to 128 (RULES 8.3).
 fn sectors_per_block(multiple_count: u8) -> u16 {
     1 << multiple_count
 }

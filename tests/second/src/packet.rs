@@ -1,27 +1,24 @@
-//! Packet drives: how one is known, and its page 00h.
+//! Packet drives: how one is known, and its page 00h (RULES 7).
 
 use crate::fault;
 
-/// "A drive is a packet drive exactly when signature bytes 5 and 6 are 14h
-/// and EBh."
+/// The signature tells it, and nothing else does.
 pub fn is_packet_drive(signature: &[u8]) -> bool {
     signature[5] == 0x14 && signature[6] == 0xEB
 }
 
-/// "Page 00h is built from the drive's: bytes 0 and 2 kept, 89h put into the
-/// list in ascending order, not twice." None where the drive's own page is
+/// The drive's own page with 89h in its list; None where that page is
 /// unusable.
 pub fn page00(reply: &[u8]) -> Option<Vec<u8>> {
     let codes = with_89(drive_codes(reply)?)?;
-    // "byte 1 not 00h" is unusable, so byte 1 is 00h.
+    // Another byte 1 than 00h is unusable.
     let mut page = vec![reply[0], 0x00, reply[2], codes.len() as u8];
     page.extend(codes);
     Some(page)
 }
 
-/// The codes that the drive lists. "Unusable: under 4 bytes, byte 1 not 00h,
-/// byte 3 above the bytes that follow, list not strictly rising"; "Bytes after
-/// the list are dropped."
+/// The codes that the drive lists, without what stands behind the list; None
+/// where the page cannot be what it says it is.
 fn drive_codes(reply: &[u8]) -> Option<&[u8]> {
     if reply.len() < 4 {
         return None;
@@ -41,8 +38,7 @@ fn drive_codes(reply: &[u8]) -> Option<&[u8]> {
     Some(codes)
 }
 
-/// "89h put into the list in ascending order, not twice"; unusable at "255
-/// codes without 89h".
+/// The list with 89h in its place; None where its length would not fit byte 3.
 fn with_89(codes: &[u8]) -> Option<Vec<u8>> {
     if codes.contains(&0x89) && !fault::planted("89h-twice") {
         return Some(codes.to_vec());

@@ -1,12 +1,12 @@
-//! Page 83h, the identification page: its writer and its reader.
+//! Page 83h, the identification page: its writer and its reader (RULES 6.4).
 
 use crate::identify::{has_name, spaces_for_zeros, turned_model, turned_name, turned_serial};
 use crate::pages::VENDOR;
 use crate::{fault, refusal};
 
-/// "If any bit of words 108-111 is one: `01 03 00 08`".
+/// The descriptor's head where the block carries a name.
 const NAME_HEAD: [u8; 4] = [0x01, 0x03, 0x00, 0x08];
-/// "Else: `02 01 00 44`".
+/// Its head where it carries none.
 const TEXT_HEAD: [u8; 4] = [0x02, 0x01, 0x00, 0x44];
 
 /// What writing a page came to.
@@ -25,28 +25,25 @@ pub struct Name {
     pub name: [u8; 60],
 }
 
-/// "**83h**: `00 83`, two length bytes, one descriptor."
+/// The page of a block.
 pub fn page83(block: &[u8]) -> Vec<u8> {
     let descriptor = if has_name(block) {
         name_descriptor(block)
     } else {
         text_descriptor(block)
     };
-    // "length 12" and "length 72": what follows the four head bytes.
+    // The length field counts what follows it, 12 or 72 bytes.
     let mut page = vec![0x00, 0x83, 0x00, descriptor.len() as u8];
     page.extend(descriptor);
     page
 }
 
-/// "`01 03 00 08`, then each word high byte first; length 12."
 fn name_descriptor(block: &[u8]) -> Vec<u8> {
     let mut descriptor = NAME_HEAD.to_vec();
     descriptor.extend(turned_name(block));
     descriptor
 }
 
-/// "`02 01 00 44`, `ATA` and five spaces, turned model (40), turned serial
-/// (20), zero bytes as spaces in both (*house* for the model); length 72."
 fn text_descriptor(block: &[u8]) -> Vec<u8> {
     let mut descriptor = TEXT_HEAD.to_vec();
     descriptor.extend(VENDOR);
@@ -65,7 +62,6 @@ pub fn write_page83(block: &[u8], room: &mut [u8]) -> Written {
         return refuse_writing(refusal::ROOM);
     }
     let page = page83(block);
-    // 8: "output room is shorter than the bytes to write".
     if room.len() < page.len() {
         return refuse_writing(refusal::ROOM);
     }
@@ -82,9 +78,7 @@ fn refuse_writing(number: u8) -> Written {
     Written { number, count: 0 }
 }
 
-/// "The identification page's reader accepts just those pages that the writer
-/// can make, and gives back the name that went in" (demand 2); "The reader of
-/// 83h takes one complete page and nothing after it."
+/// Reads a page that the writer could have made, and no other.
 pub fn read_page83(page: &[u8]) -> Name {
     if fault::planted("read-refuses-all") {
         return nothing_found();
@@ -98,7 +92,7 @@ pub fn read_page83(page: &[u8]) -> Name {
     nothing_found()
 }
 
-/// "A refusal returns ... zero for each order field, name or count".
+/// A refusal has form 0 and a name of zeros (RULES 2).
 fn nothing_found() -> Name {
     Name {
         number: refusal::NOT_A_PAGE,
@@ -117,8 +111,8 @@ fn found(form: u8, bytes: &[u8]) -> Name {
     }
 }
 
-/// The 8 bytes of a world wide name. The writer takes this form only when
-/// "any bit of words 108-111 is one".
+/// The 8 bytes of a world wide name, which the writer never makes of zeros
+/// alone.
 fn name_in(page: &[u8]) -> Option<&[u8]> {
     let bytes = behind(page, &[&[0x00, 0x83, 0x00, 0x0C], &NAME_HEAD])?;
     let is_a_name = bytes.len() == 8 && bytes.iter().any(|&byte| byte != 0x00);
@@ -131,8 +125,8 @@ fn name_in(page: &[u8]) -> Option<&[u8]> {
     is_a_name.then_some(bytes)
 }
 
-/// The 60 bytes of model and serial. The writer leaves no zero byte in them:
-/// "zero bytes as spaces in both".
+/// The 60 bytes of model and serial number, in which the writer leaves no zero
+/// byte.
 fn text_in(page: &[u8]) -> Option<&[u8]> {
     let bytes = behind(page, &[&[0x00, 0x83, 0x00, 0x48], &TEXT_HEAD, VENDOR])?;
     let is_a_text = bytes.len() == 60 && bytes.iter().all(|&byte| byte != 0x00);

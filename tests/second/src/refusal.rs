@@ -1,50 +1,47 @@
-//! The numbers that come back: status, refusal numbers and refusal sense.
+//! The numbers that come back (RULES 2), the table of refusals (RULES 3) and a
+//! refusal's sense data (RULES 10).
 
-/// "Status: GOOD 00h, CHECK CONDITION 02h, BUSY 08h."
 pub const GOOD: u8 = 0x00;
 pub const CHECK_CONDITION: u8 = 0x02;
 pub const BUSY: u8 = 0x08;
-/// Stands for the word "none" in the table's status column.
+/// Where a call has no status.
 pub const NO_STATUS: u8 = 0xFF;
 
-/// "An accepted call carries number 0".
 pub const ACCEPTED: u8 = 0;
-/// "a lent piece breaks the sizes above; roll input not a multiple of 512 or
-/// above 32,768 bytes; roll's row room below the block count"
+/// What is lent has a wrong size.
 pub const SIZE: u8 = 1;
-/// "no command bytes, or fewer than the command's size"
+/// The command is cut short.
 pub const SHORT: u8 = 2;
-/// "the opcode is not one that this entry serves"
+/// It is a command for someone else.
 pub const OPCODE: u8 = 3;
-/// "NACA (control byte bit 2) is one; for INQUIRY also CMDDT one, or EVPD
-/// zero with a page code not 00h"
+/// A field asks for what the board never does.
 pub const FIELD: u8 = 4;
-/// "EVPD one and the page is not 00h, 80h, 83h, 89h"
+/// There is no such page.
 pub const PAGE: u8 = 5;
-/// "no IDENTIFY block, and standard data, 80h or 83h is asked"
+/// A block is needed, and the drive gave none.
 pub const NO_BLOCK: u8 = 6;
-/// "page 00h is asked of a packet drive and its own is unusable"
+/// A packet drive's list of pages cannot be trusted.
 pub const UNUSABLE: u8 = 7;
-/// "output room is shorter than the bytes to write"
+/// The answer does not fit the room.
 pub const ROOM: u8 = 8;
-/// "PROTOCOL is 2, 7, 12, 13 or 14"
+/// The board does not speak this protocol.
 pub const PROTOCOL: u8 = 9;
-/// "an order is pending, and PROTOCOL is not 15"
+/// The record is taken.
 pub const PENDING: u8 = 10;
-/// "T_LENGTH does not fit the protocol"
+/// A length is given without data, or none with it.
 pub const T_LENGTH: u8 = 11;
-/// "T_DIR does not fit the protocol"
+/// The data would go the other way.
 pub const T_DIR: u8 = 12;
-/// "a data protocol with length 0"
+/// There would be no data.
 pub const LENGTH_ZERO: u8 = 13;
-/// "length above the host's declared length"
+/// There would be more data than the host takes.
 pub const ABOVE_DECLARED: u8 = 14;
-/// "completion while nothing is pending"
+/// There is no order to complete.
 pub const NOTHING_PENDING: u8 = 15;
-/// "the reader's page is not one the writer can make"
+/// No drive has this page 83h.
 pub const NOT_A_PAGE: u8 = 16;
 
-/// The table's column "Status".
+/// The column Status of the table.
 pub fn status(number: u8) -> u8 {
     match number {
         SIZE | ROOM | NOTHING_PENDING | NOT_A_PAGE => NO_STATUS,
@@ -53,7 +50,7 @@ pub fn status(number: u8) -> u8 {
     }
 }
 
-/// The table's column "Key ASC ASCQ"; None where the row says "none".
+/// The column Key ASC ASCQ; None where a row has no key.
 pub fn key_asc_ascq(number: u8) -> Option<[u8; 3]> {
     match number {
         SHORT => Some([0x05, 0x24, 0x00]),
@@ -71,8 +68,7 @@ pub fn key_asc_ascq(number: u8) -> Option<[u8; 3]> {
     }
 }
 
-/// "A row with a key writes exactly 8 sense bytes, `72 key ASC ASCQ 00 00 00
-/// 00`, and nothing else that was lent. Every other row writes nothing."
+/// A refusal without a key has nothing to tell the host.
 pub fn write_sense(number: u8, sense: &mut [u8]) {
     if let Some([key, asc, ascq]) = key_asc_ascq(number) {
         sense[..8].copy_from_slice(&[0x72, key, asc, ascq, 0x00, 0x00, 0x00, 0x00]);

@@ -1,4 +1,4 @@
-//! The roll of drives, and the text of the program `rollcall`.
+//! The roll of drives, and the text of the program `rollcall` (RULES 11).
 
 use crate::identify::{has_name, space_for_zero, word};
 use crate::{fault, refusal};
@@ -13,9 +13,8 @@ pub struct Roll {
     pub drives: u16,
 }
 
-/// "Row numbers are written as 16-bit numbers into lent room; entries past the
-/// block count stay." "Rows run from 1 by first appearance, and the drive
-/// count is the number of different drives so defined" (demand 3).
+/// Gives each block its row. A drive that was not seen before has the next
+/// free number.
 pub fn roll(blocks: &[u8], rows: &mut [u16]) -> Roll {
     if !sizes_are_right(blocks, rows) || fault::planted("roll-refuses-all") {
         return Roll {
@@ -57,17 +56,13 @@ fn spoil(lent: &[u16], blocks: usize, rows: &mut [u16], drives: &mut u16) {
     }
 }
 
-/// 1: "roll input not a multiple of 512 or above 32,768 bytes; roll's row room
-/// below the block count".
+/// Whole blocks, at most 64, and a row for each; else 1.
 fn sizes_are_right(blocks: &[u8], rows: &[u16]) -> bool {
-    blocks.len().is_multiple_of(BLOCK)
-        && blocks.len() <= 32_768
-        && rows.len() >= blocks.len() / BLOCK
+    blocks.len() % BLOCK == 0 && blocks.len() <= 32_768 && rows.len() >= blocks.len() / BLOCK
 }
 
-/// "both carry a nonzero world wide name and it is the same one, or both carry
-/// none and have equal model and serial fields with zero bytes read as spaces"
-/// (demand 3).
+/// A name decides where there is one; the texts only where neither block has
+/// one (RULES 5).
 fn same_drive(a: &[u8], b: &[u8]) -> bool {
     if fault::planted("roll-by-sixteen-letters") {
         return a[54..70] == b[54..70];
@@ -79,12 +74,11 @@ fn same_drive(a: &[u8], b: &[u8]) -> bool {
     }
 }
 
-/// "Name: words 108-111."
 fn same_name(a: &[u8], b: &[u8]) -> bool {
     (108..=111).all(|w| word(a, w) == word(b, w))
 }
 
-/// "Serial: words 10-19. Model: words 27-46."
+/// The serial number and the model, spaced.
 fn same_texts(a: &[u8], b: &[u8]) -> bool {
     let serial = 20..40;
     let model = 54..94;
@@ -96,8 +90,7 @@ fn same_texts(a: &[u8], b: &[u8]) -> bool {
         .all(|at| space_for_zero(a[at]) == space_for_zero(b[at]))
 }
 
-/// "Program `rollcall` reads standard input, prints `refused 1` alone, or as
-/// here." The whole output for the given input.
+/// All that the program prints for the given input.
 pub fn rollcall(input: &[u8]) -> String {
     let mut rows = [0; 64];
     let roll = roll(input, &mut rows);

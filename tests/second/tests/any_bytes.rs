@@ -1,5 +1,5 @@
-//! "Every entry point takes bytes of all lengths and contents and ends"
-//! (demand 1), and a refusal touches only the sense bytes of its row.
+//! Whatever is lent, every function ends (demand 1), and a refusal touches only
+//! the sense bytes of its row.
 
 mod common;
 

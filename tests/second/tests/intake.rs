@@ -1,5 +1,4 @@
-//! The intake (request L6): runs off the wire, and the block that comes of
-//! them.
+//! The intake (RULES 12): runs off the wire, and the block that comes of them.
 
 mod common;
 
@@ -69,8 +68,7 @@ fn divided<'a>(stream: &'a [u8], lengths: &[usize]) -> Vec<&'a [u8]> {
     runs
 }
 
-/// "From an empty intake, however one stream is divided, the stored block, the
-/// completion point and the total used are those of a single run".
+/// The division of a stream into runs changes nothing of what comes of it.
 #[test]
 fn a_divided_stream_is_as_one_run() {
     for size in [0, 1, 2, 300, 510, 511, 512, 513, 514, 1024, 1500] {
@@ -96,7 +94,7 @@ fn streams_divided_at_random_are_as_one_run() {
     }
 }
 
-/// "the stream's first 512 bytes in their order, or all of a shorter one".
+/// The stream's front is stored, up to a whole block.
 #[test]
 fn a_single_run() {
     for (size, used) in [
@@ -140,7 +138,7 @@ fn the_completion_point() {
     }
 }
 
-/// "after that it uses nothing until emptied".
+/// A complete intake leaves every run unused.
 #[test]
 fn a_complete_intake_uses_nothing() {
     let mut came = feed(&[&stream(512)]);
@@ -182,8 +180,8 @@ fn sums() {
     assert_eq!(feed(&divided(&block, &[5])).intake.sum, sum(&block));
 }
 
-/// "An intake that claims more than 512 bytes gets refusal 1", and so does a
-/// store of another size; both change nothing.
+/// 1 for a claim that no store can hold, and for a store of another size; both
+/// change nothing.
 #[test]
 fn wrong_claims_and_stores() {
     let claims = [(513, 512), (65_535, 512)];
@@ -212,7 +210,7 @@ fn refused(number: u8) -> Counted {
     Counted { number, count: 0 }
 }
 
-/// "Until complete it gives 0 bytes as its block".
+/// An incomplete intake has no block.
 #[test]
 fn blocks_of_all_that_an_intake_can_have() {
     for have in 0..512 {
@@ -251,7 +249,7 @@ const PAGES: [[u8; 6]; 6] = [
     [0x12, 1, 0xB0, 2, 0x58, 0],
 ];
 
-/// "Page 89h and the roll work from its block".
+/// A complete intake's block serves page 89h and the roll.
 #[test]
 fn inquiry_asks_the_intakes_block() {
     for command in PAGES {
@@ -364,8 +362,7 @@ fn refused_gathering() {
     assert_eq!(gathered(&three, &stores, 1024).0, counted(1024));
 }
 
-/// "Every entry point takes bytes of all lengths and contents and ends"
-/// (demand 1).
+/// Whatever is lent, the intake's functions end (demand 1).
 #[test]
 fn every_intake_is_answered() {
     let mut numbers = Numbers(62);

@@ -72,7 +72,7 @@ fn reads_a_text() {
     );
 }
 
-/// "a text's zero bytes as spaces" (demand 2)
+/// A text comes back spaced (demand 2).
 #[test]
 fn reads_zero_bytes_of_a_text_as_spaces() {
     let page = page_of(&zero_block());
@@ -86,7 +86,7 @@ fn reads_zero_bytes_of_a_text_as_spaces() {
     );
 }
 
-/// "takes one complete page and nothing after it"
+/// A byte too many is no page, nor one too few.
 #[test]
 fn every_other_length_is_refused() {
     for page in [name_page(), text_page()] {

@@ -1,6 +1,5 @@
-//! Pairs of refusals that both apply: "Checks run in this order, the first
-//! that applies answers: 1; empty command 2; opcode 3; short command 2; then 4
-//! to 16 upward, those that concern the command."
+//! Pairs of refusals that both apply: the one whose check is made first answers
+//! (RULES 3).
 
 mod common;
 

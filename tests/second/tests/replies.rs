@@ -118,7 +118,7 @@ fn page_89_of_a_packet_drive() {
         .writes(&wanted_89(0x00, 0xA1, &signature, &[0; 512]));
 }
 
-/// "Length fields inside keep the full value", at every allocation length.
+/// A cut leaves the length fields as they are, at every allocation length.
 #[test]
 fn page_89_at_every_cut() {
     let whole = wanted_89(0x00, 0xEC, &PLAIN, &block_0());

@@ -127,8 +127,7 @@ fn sixty_four_different_drives() {
     assert!(text.ends_with("\n63 64 text\n"));
 }
 
-/// "Their complete identification pages ... are equal under that same
-/// condition and no other" (demand 3).
+/// Two blocks have the same row exactly if their pages 83h are equal (demand 3).
 #[test]
 fn rows_agree_with_the_pages() {
     let mut numbers = Numbers(3);

@@ -289,7 +289,7 @@ pub fn is_filled(bytes: &[u8]) -> bool {
     bytes.iter().all(|&byte| byte == FILL)
 }
 
-/// The table's status, and key, ASC and ASCQ, copied row by row.
+/// The table's status, and key, ASC and ASCQ, row by row (RULES 3).
 pub fn row(number: u8) -> (u8, Option<[u8; 3]>) {
     match number {
         1 => (0xFF, None),
@@ -312,8 +312,7 @@ pub fn row(number: u8) -> (u8, Option<[u8; 3]>) {
     }
 }
 
-/// "A row with a key writes exactly 8 sense bytes ... Every other row writes
-/// nothing."
+/// The sense room after a refusal (RULES 10).
 pub fn check_refusal_sense(number: u8, sense: &[u8]) {
     match row(number).1 {
         None => assert!(is_filled(sense), "sense is touched"),

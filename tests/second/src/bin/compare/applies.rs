@@ -92,7 +92,7 @@ pub fn to(call: &Call) -> Set {
 }
 
 fn roll_is_refused(bytes: usize, rows: usize) -> bool {
-    !bytes.is_multiple_of(512) || bytes > 64 * 512 || rows < bytes / 512
+    bytes % 512 != 0 || bytes > 64 * 512 || rows < bytes / 512
 }
 
 /// Whether the intake of a take or an INQUIRY is wrong, or its store.

@@ -4,6 +4,7 @@
 use crate::applies;
 use crate::call::{Call, Said, NAMES};
 use crate::show;
+use crate::trouble;
 use std::collections::HashSet;
 use std::io::{self, Read, Write};
 use std::process::{Child, ChildStdin, ChildStdout, Command, Stdio};
@@ -61,7 +62,7 @@ fn spawn(command: &[String]) -> io::Result<(Child, ChildStdin, ChildStdout)> {
         .stdin(Stdio::piped())
         .stdout(Stdio::piped())
         .spawn()?;
-    let none = || io::Error::other("the board has no pipes");
+    let none = || trouble("the board has no pipes");
     let input = child.stdin.take().ok_or_else(none)?;
     let output = child.stdout.take().ok_or_else(none)?;
     Ok((child, input, output))
@@ -163,13 +164,13 @@ impl Board {
         let joined = reader.map(JoinHandle::join);
         let mut found = match joined {
             Some(Ok(found)) => found,
-            _ => return Err(io::Error::other("the comparison ended early")),
+            _ => return Err(trouble("the comparison ended early")),
         };
         found.resize(self.classes.len(), 0);
         let ended = self.child.wait()?;
         if !ended.success() && found.iter().sum::<u64>() == 0 {
             let name = &self.command[self.command.len() - 1];
-            return Err(io::Error::other(format!("{name} ended with {ended}")));
+            return Err(trouble(format!("{name} ended with {ended}")));
         }
         Ok(found)
     }

@@ -405,8 +405,8 @@ pub struct Bytes<'a>(pub &'a [u8]);
 
 impl<'a> Bytes<'a> {
     pub fn take(&mut self, size: usize) -> Option<&'a [u8]> {
-        let (front, rest) = self.0.split_at_checked(size)?;
-        self.0 = rest;
+        let front = self.0.get(..size)?;
+        self.0 = &self.0[size..];
         Some(front)
     }
 

@@ -218,7 +218,7 @@ pub fn roll_sizes(board: &mut Board) {
         for haves in claimed(count) {
             let complete = haves.iter().filter(|&&have| have == 512).count();
             for more in [-512, -1, 0, 1, 512_isize] {
-                let stores = &stores[..(512 * count).saturating_add_signed(more)];
+                let stores = &stores[..lent::near(512 * count, more)];
                 for (space, rows) in spaces(complete, more == 0) {
                     board.call(&lent::intake_roll(&haves, stores, space, rows));
                 }

@@ -154,6 +154,11 @@ pub fn roll(blocks: &[u8], rows: usize) -> Call {
     Call::new(call::ROLL, vec![blocks.to_vec(), room(2 * rows)])
 }
 
+/// So many bytes more or fewer, but not fewer than none.
+pub fn near(size: usize, more: isize) -> usize {
+    (size as isize + more).max(0) as usize
+}
+
 /// A run for an intake with this store.
 pub fn take(intake: Intake, store: &[u8], run: &[u8]) -> Call {
     Call::new(call::INTAKE_TAKE, vec![store.to_vec(), run.to_vec()]).intake(intake)

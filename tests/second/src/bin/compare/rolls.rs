@@ -42,7 +42,7 @@ pub fn sizes(board: &mut Board) {
         let mut blocks = all.clone();
         blocks.resize(512 * count, 0x41);
         for more in [-512, -511, -2, -1, 0, 1, 2, 511, 513_isize] {
-            let size = blocks.len().saturating_add_signed(more);
+            let size = lent::near(blocks.len(), more);
             let mut other = blocks.clone();
             other.resize(size, 0x42);
             for rows in [0, 1, count.saturating_sub(1), count, count + 1, 70] {

@@ -23,8 +23,9 @@ pub fn from_hex(text: &str) -> Option<Vec<u8>> {
 /// The whole call, both answers, and how to see them again.
 pub fn both(head: &str, request: &[u8], second: &[u8], board: Option<&[u8]>) -> String {
     let mut text = format!("{head}\n");
-    let Some(call) = Call::decode(request) else {
-        return text + "  a call that cannot be decoded\n";
+    let call = match Call::decode(request) {
+        Some(call) => call,
+        None => return text + "  a call that cannot be decoded\n",
     };
     text += &describe(&call);
     text += &format!("  second program: {}\n", outcome(&call, second));
