@@ -1,6 +1,7 @@
 #!/usr/bin/env python3
 """Reads IDENTIFY blocks without the board, from the words' definition in the ATA standard, and prints what crates/labels
-must print of them: the stored output of that program is held against this."""
+must print of them: the stored output of that program is held against this. A drive's row is its place among the drives
+met so far, from 1."""
 import sys
 
 
@@ -28,11 +29,13 @@ def drive(block):
 
 def main():
     data = sys.stdin.buffer.read()
-    blocks = [data[i:i + 512] for i in range(0, len(data), 512)]
-    for place, block in enumerate(blocks):
+    met = []
+    for place, block in enumerate(data[i:i + 512] for i in range(0, len(data), 512)):
         shown = "name " + name(block) if any(words(block, 108, 111)) else "no name"
-        first = next(i for i, other in enumerate(blocks) if drive(other) == drive(block))
-        line = b"%d [%s] [%s] %s drive %d\n" % (place, text(block, 27, 46), text(block, 10, 19), shown.encode(), first)
+        if drive(block) not in met:
+            met.append(drive(block))
+        row = 1 + met.index(drive(block))
+        line = b"%d [%s] [%s] %s drive %d\n" % (place, text(block, 27, 46), text(block, 10, 19), shown.encode(), row)
         sys.stdout.buffer.write(line)
 
 

@@ -1,13 +1,15 @@
 // Health: the health logger. For each register image of 11 bytes on standard input, which is what a drive left after SMART
 // RETURN STATUS, it sends that command through the board, reads the sense data that come back, and prints a line with the
 // drive's place and what it said. This is the health page that version three asked for as a write: here the command is
-// non-data, and the drive waits for nothing.
+// non-data, and the drive waits for nothing. What each answer stands for is in specs/Said, what is asked and how in specs/Asked.
 use libc::STDERR_FILENO;
 use libc::STDOUT_FILENO;
 use passthrough::Pending;
 ghost use Prim.Native.Nat.{_+_, _*_, _≤_};
 ghost use mathlib.Core.Path.{_≡_};
 ghost use lib.ListN.{length};
+ghost use Rattle.health.specs.Said.{valuesOf, hasRegisters, verdictOf, heardIn};
+ghost use Rattle.health.specs.Asked.{returnStatus, ended, asked, given};
 
 // What a drive said of its health. Error has the drive's error register, Refused the number of the board's refusal.
 enum Said {
@@ -26,7 +28,9 @@ struct Asked {
 
 // SMART RETURN STATUS as ATA PASS-THROUGH (16): protocol 3, which is non-data, and CK_COND one, so that the registers come
 // back without an error too. Features DAh, LBA mid 4Fh, LBA high C2h, device A0h, command B0h.
-fn return_status() -> [u8; 16] {
+fn return_status() -> [u8; 16]
+    ensures { λ r. ⌜ r ≡ returnStatus ⌝ }
+{
     let mut command = [0u8; 16];
     command[0] = 0x85;
     command[1] = 0x06;
@@ -40,12 +44,16 @@ fn return_status() -> [u8; 16] {
 }
 
 // Whether sense data are in descriptor form and start with the descriptor that has the drive's registers.
-fn has_registers(sense: &[u8; 22]) -> bool {
+fn has_registers(sense: &[u8; 22]) -> bool
+    ensures { λ r. ⌜ r ≡ hasRegisters (now (sense .entry)) ⌝ }
+{
     (sense[0] == 0x72) & (sense[8] == 0x09) & (sense[9] == 0x0C)
 }
 
 // What the two register bytes say that the drive leaves as they were sent, or turns where it fails.
-fn verdict(mid: u8, high: u8) -> Said {
+fn verdict(mid: u8, high: u8) -> Said
+    ensures { λ r. ⌜ r ≡ verdictOf mid high ⌝ }
+{
     if (mid == 0x4F) & (high == 0xC2) {
         return Said::Healthy;
     }
@@ -56,7 +64,9 @@ fn verdict(mid: u8, high: u8) -> Said {
 }
 
 // What the sense data of the command's end say: key 0Bh is an error; else LBA mid and high decide.
-fn heard(sense: &[u8; 22]) -> Said {
+fn heard(sense: &[u8; 22]) -> Said
+    ensures { λ r. ⌜ r ≡ heardIn (now (sense .entry)) ⌝ }
+{
     if !has_registers(sense) {
         return Said::Unknown;
     }
@@ -67,7 +77,9 @@ fn heard(sense: &[u8; 22]) -> Said {
 }
 
 // Ends the command that is pending with the registers that the drive left.
-fn end(pending: Pending, registers: &[u8]) -> Asked {
+fn end(pending: Pending, registers: &[u8]) -> Asked
+    ensures { λ r. ⌜ r ≡ ended pending (now (registers .entry)) ⌝ }
+{
     let mut sense = [0u8; 22];
     let completed = pending.complete(registers, &mut sense);
     let next = completed.next;
@@ -85,7 +97,10 @@ fn end(pending: Pending, registers: &[u8]) -> Asked {
 }
 
 // Sends the command to a drive that then leaves these registers.
-fn ask(pending: Pending, registers: &[u8]) -> Asked {
+fn ask(pending: Pending, registers: &[u8]) -> Asked
+    ensures rules { λ r. ⌜ r ≡ asked pending (now (registers .entry)) ⌝ }
+    ensures values { λ r. ⌜ valuesOf (r .said) ≡ given pending (now (registers .entry)) ⌝ }
+{
     let mut sense = [0u8; 22];
     let submitted = pending.submit(&return_status(), registers, 0, &mut sense);
     let next = submitted.next;

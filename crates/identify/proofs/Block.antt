@@ -7,7 +7,7 @@ use lib.ListN.{length, length-take, length-drop}
 use Rattle.identify.specs.Block.{words, serial, model, name}
 
 -- A field that the block holds whole has two bytes a word.
-length-words : (first last : ℕ) (block : List ℕ) → 2 * (last + 1) ≤ length block → length (words first last block) ≡ 2 * (last + 1 - first)
+pub length-words : (first last : ℕ) (block : List ℕ) → 2 * (last + 1) ≤ length block → length (words first last block) ≡ 2 * (last + 1 - first)
 length-words first last block h = simp (length-take, length-drop) (omega arith)
 
 -- The fields of a whole block.

@@ -46,7 +46,7 @@ equal-same (a ∷ s) (b ∷ t) e =
     rw (eqb-true a b (both .0), equal-same s t (both .1))
 
 -- A test that cannot be true is false.
-never : (b : Bool) → (b ≡ true → ⊥) → b ≡ false
+pub never : (b : Bool) → (b ≡ true → ⊥) → b ≡ false
 never true n = absurd (n refl)
 never false n = refl
 

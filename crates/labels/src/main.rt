@@ -1,5 +1,5 @@
 // Labels: for each IDENTIFY block of 512 bytes on standard input a line with its place, its model and serial number as the
-// board shows them, its world wide name, and the place of the first block of the same drive.
+// board shows them, its world wide name, and its drive's row in the roll, which is the row that `rollcall` prints.
 use libc::STDERR_FILENO;
 use libc::STDOUT_FILENO;
 ghost use mathlib.Core.Path.{_≡_};
@@ -46,27 +46,29 @@ fn say_name(block: &[u8]) -> bool
         && say_word(block, 111)
 }
 
-fn say_place(i: usize) -> bool {
-    io::print_decimal(STDOUT_FILENO, i as u64)
+fn say_number(number: u64) -> bool {
+    io::print_decimal(STDOUT_FILENO, number)
 }
 
-fn label(i: usize, block: &[u8], first: usize) -> bool
+fn label(i: usize, block: &[u8], row: u16) -> bool
     requires { ⌜ length (now block) ≡ 512 ⌝ }
 {
-    say_place(i)
+    say_number(i as u64)
         && say_texts(block)
         && say_name(block)
         && say(b" drive ")
-        && say_place(first)
+        && say_number(row as u64)
         && say(b"\n")
 }
 
 // A line for each block; none behind one that could not be written.
-fn labels(blocks: &[u8]) -> bool {
+fn labels(blocks: &[u8], rows: &[u16; 64]) -> bool
+    requires { ⌜ length (now blocks) ≤ 32768 ⌝ }
+{
     let count = blocks.len() / 512;
     let mut i = 0;
     while i < count {
-        if !label(i, roll::block_at(blocks, i), roll::first_of(blocks, i)) {
+        if !label(i, roll::block_at(blocks, i), rows[i]) {
             return false;
         }
         i += 1;
@@ -74,29 +76,30 @@ fn labels(blocks: &[u8]) -> bool {
     true
 }
 
+fn complain(text: &[u8]) {
+    io::write_all(STDERR_FILENO, text);
+}
+
+// The buffer has one byte more than 64 blocks, so that of what the roll refuses only ragged input comes to it.
 fn main() {
     let mut buffer = [0u8; 32769];
     let got = input::read_all(&mut buffer);
     if got.failed {
-        io::write_all(STDERR_FILENO, b"labels: standard input could not be read\n");
+        complain(b"labels: standard input could not be read\n");
         return;
     }
     let n = got.count;
     if n == 32769 {
-        io::write_all(STDERR_FILENO, b"labels: more than 64 blocks\n");
+        complain(b"labels: more than 64 blocks\n");
         return;
     }
-    if n % 512 != 0 {
-        io::write_all(
-            STDERR_FILENO,
-            b"labels: the input is no whole number of blocks of 512 bytes\n",
-        );
+    let mut rows = [0u16; 64];
+    let counted = roll::roll(&buffer[..n], &mut rows);
+    if counted.number != 0 {
+        complain(b"labels: the input is no whole number of blocks of 512 bytes\n");
         return;
     }
-    if !labels(&buffer[..n]) {
-        io::write_all(
-            STDERR_FILENO,
-            b"labels: standard output could not be written\n",
-        );
+    if !labels(&buffer[..n], &rows) {
+        complain(b"labels: standard output could not be written\n");
     }
 }

@@ -26,7 +26,7 @@ pub fn block_at(bytes: &[u8], i: usize) -> &[u8]
 }
 
 // The place of the first block of the same drive as block i: i itself where none before it is.
-pub fn first_of(bytes: &[u8], i: usize) -> usize
+fn first_of(bytes: &[u8], i: usize) -> usize
     requires { ⌜ 512 * i + 512 ≤ length (now bytes) ⌝ }
     ensures { λ r. ⌜ Found (now (bytes .entry)) i r ⌝ }
 {

@@ -1,0 +1,2 @@
+-- What the logger's answers stand for.
+pub mod Answers

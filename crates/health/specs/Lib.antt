@@ -1,0 +1,3 @@
+-- What the health logger says of a drive.
+pub mod Said
+pub mod Asked
