@@ -1,5 +1,6 @@
 -- Every promise of specs/Promises, proved.
 use mathlib.Core.Path.{_≡_, sym, _∙_}
+use Rattle.identify.proofs.Words.{same-drive-by-words}
 use Rattle.demands.specs.Promises.{Settled, OneOutcome, Promises}
 use Rattle.demands.proofs.Refusals.{refusals-change-nothing}
 use Rattle.demands.proofs.Soundings.{soundings-hold}
@@ -44,6 +45,7 @@ kept =
       protocol-15-keeps-the-record = protocol-15-keeps-the-record;
       reads-back = reads-back;
       accepted-is-written = accepted-is-written;
+      same-drive-by-words = λ a b ba bb la lb. same-drive-by-words ba bb la lb;
       roll-of-drives = roll-of-drives;
       pages-of-the-writer = pages-of-the-writer;
       pages-of-inquiry = pages-of-inquiry;

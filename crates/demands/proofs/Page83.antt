@@ -12,6 +12,7 @@ use borrow.Author.Tests.{eq-eqb, eqb-true, le-ltb, ltb-false, not-false}
 use Rattle.rules.specs.First.{_when_}
 use Rattle.rules.proofs.First.{silent}
 use Rattle.room.specs.Room.{written}
+use Rattle.identify.specs.Bytes.{Bytes, no-more, more}
 use Rattle.identify.specs.Block.{words, serial, model, name}
 use Rattle.texts.specs.Text.{turned, space, spaced}
 use Rattle.identify.specs.Drive.{someBit, carriesName, equal, sameDrive}
@@ -23,7 +24,7 @@ use Rattle.page83.specs.Page83.{page83, namePage, textPage, refusalOf, Outcome,
 use Rattle.page83_reader.specs.Reader.{noZero, namesDrive, tellsTexts, inSixty, read}
 use Rattle.room.proofs.Laws.{front}
 use Rattle.page83.proofs.Laws.{named-page, unnamed-page, length-model-text, length-serial-text}
-use Rattle.demands.specs.Promises.{Bytes, no-more, more, left, nameOf, ReadsBack, AcceptedIsWritten, PagesOfTheWriter}
+use Rattle.demands.specs.Promises.{left, nameOf, ReadsBack, AcceptedIsWritten, PagesOfTheWriter}
 use Rattle.demands.proofs.Refusals.{not-refused}
 
 -- Turning makes no bit and loses none.
@@ -195,7 +196,7 @@ bytes-turned (more h (more k b)) = more k (more h (bytes-turned b))
 bytes-zeros : (n : ℕ) → Bytes (zeros n)
 unfolding zeros
 bytes-zeros zero = no-more
-bytes-zeros (suc n) = more {b = 0} (omega arith) (bytes-zeros n)
+bytes-zeros (suc n) = more {byte = 0} (omega arith) (bytes-zeros n)
 
 bytes-block : {s m n : List ℕ} → Bytes s → Bytes m → Bytes n → Bytes (blockOf s m n)
 unfolding blockOf

@@ -3,8 +3,8 @@
 -- that each promise is one about the entry.
 use mathlib.Core.Path.{_≡_}
 use mathlib.Core.Bool.{Bool, true, false, cond}
-use mathlib.Core.Logic.{_↔_}
-use mathlib.Core.List.{List, [], _∷_, _++_}
+use mathlib.Core.Logic.{_⊎_, _↔_}
+use mathlib.Core.List.{List, [], _++_}
 use Prim.Native.Nat.{ℕ, suc, _*_, _-_, _/_, _%_, _≤_, _<_}
 use lib.Dec.{leb}
 use lib.ListN.{length, getD, take, set}
@@ -12,6 +12,8 @@ use Rattle.rules.specs.Bits.{flag}
 use Rattle.room.specs.Room.{written}
 use Rattle.texts.specs.Text.{turned, spaced}
 use Rattle.identify.specs.Block.{serial, model, name}
+use Rattle.identify.specs.Bytes.{Bytes}
+use Rattle.identify.specs.Words.{NameInWords, TextsInWords}
 use Rattle.identify.specs.Drive.{carriesName, sameDrive}
 use Rattle.page83.specs.Page83 as Page83
 use Rattle.page83.specs.Page83.{write}
@@ -182,17 +184,17 @@ nameOf block =
 abbrev pub ReadsBack : Type 0
 ReadsBack = (block room : List ℕ) → write block room .written .number ≡ 0 → read (left (write block room)) ≡ nameOf block
 
--- Every number of a list is a byte.
-pub data Bytes : List ℕ → Type 0 where
-  no-more : Bytes []
-  more : {b : ℕ} {s : List ℕ} → b < 0x100 → Bytes s → Bytes (b ∷ s)
-
 -- And it accepts nothing else: an accepted page is what the writer leaves for some block, in every room that holds it; and where the
 -- page is of bytes, so is the block.
 abbrev pub AcceptedIsWritten : Type 0
 AcceptedIsWritten = (page : List ℕ) → read page .number ≡ 0 → (block : List ℕ) × (Bytes page → Bytes block) × ((room : List ℕ) → length page ≤ length room → (write block room .written .number ≡ 0) × (left (write block room) ≡ page))
 
 -- ## Demand 3
+
+-- What it is to be the same drive, over the IDENTIFY words: of two blocks of 512 bytes, both have words 108 to 111 that are not all
+-- zero, and they are equal; or these words are all zero in both, and model and serial number are equal with zero bytes as spaces.
+abbrev pub SameDriveByWords : Type 0
+SameDriveByWords = (a b : List ℕ) → Bytes a → Bytes b → length a ≡ 512 → length b ≡ 512 → (sameDrive a b ≡ true) ↔ (NameInWords a b ⊎ TextsInWords a b)
 
 -- The row of block i in the room that a roll leaves.
 abbrev pub rowAt : List ℕ → List ℕ → ℕ → ℕ
@@ -278,6 +280,7 @@ pub record Promises : Type 0 where
   pub protocol-15-keeps-the-record : Protocol15KeepsTheRecord
   pub reads-back : ReadsBack
   pub accepted-is-written : AcceptedIsWritten
+  pub same-drive-by-words : SameDriveByWords
   pub roll-of-drives : RollOfDrives
   pub pages-of-the-writer : PagesOfTheWriter
   pub pages-of-inquiry : PagesOfInquiry
