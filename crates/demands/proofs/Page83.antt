@@ -9,7 +9,6 @@ use lib.Dec.{eqb, ltb, eqb·suc-zero}
 use lib.ListN.{length, getD, take, drop, replicate, length-append, length-take, length-drop, length-replicate, take-append-drop}
 use lib.Seq.{take-at, drop-at, drop-drop}
 use borrow.Author.Tests.{eq-eqb, eqb-true, le-ltb, ltb-false, not-false}
-use Rattle.rules.specs.First.{_when_}
 use Rattle.rules.proofs.First.{silent}
 use Rattle.room.specs.Room.{written}
 use Rattle.identify.specs.Bytes.{Bytes, no-more, more}
@@ -20,7 +19,7 @@ use Rattle.identify.proofs.Block.{length-name}
 use Rattle.texts.proofs.Text.{turned-twice, turned-injective, turned-map, length-turned}
 use Rattle.identify.proofs.Drive.{equal-same, OneName, OneText, same-drive-means, same-drive-when}
 use Rattle.page83.specs.Page83 as Page83
-use Rattle.page83.specs.Page83.{page83, namePage, textPage, refusalOf, Outcome, write}
+use Rattle.page83.specs.Page83.{page83, namePage, textPage, checks, refusalOf, Outcome, write}
 use Rattle.page83_reader.specs.Reader.{noZero, namesDrive, tellsTexts, inSixty, read}
 use Rattle.room.proofs.Laws.{front}
 use Rattle.page83.proofs.Laws.{named-page, unnamed-page, length-model-text, length-serial-text}
@@ -107,7 +106,7 @@ module _ (block room : List ℕ) where
   unfolding write refusalOf
   fits e =
       let z = not-refused (λ (o : Outcome). o .written .number) refused accepted (refusalOf block (length room)) refl e in
-      let c = silent ((1 when not (eqb (length block) 512)) ∷ (8 when ltb (length room) (length (page83 block))) ∷ []) refl z in
+      let c = silent (checks block (length room)) refl z in
       record { whole = eqb-true _ _ (not-false _ (c .0)); enough = ltb-false _ _ (c .1 .0) }
 
   write-is : Fits → write block room ≡ accepted

@@ -1,12 +1,11 @@
 -- Demand 1 of refusals: an entry's outcome is what was accepted, which carries 0, or what its refusal's number alone decides.
 use mathlib.Core.Path.{_≡_, refl, sym, ap, _∙_}
-use mathlib.Core.Bool.{Bool, true, false, cond, not}
-use mathlib.Core.List.{List, [], _∷_}
+use mathlib.Core.Bool.{Bool, true, false, cond}
+use mathlib.Core.List.{List, []}
 use Prim.Native.Nat.{ℕ}
-use lib.Dec.{eqb, ltb}
+use lib.Dec.{eqb}
 use lib.ListN.{length}
 use borrow.Author.Tests.{eq-eqb, eqb-true, not-false}
-use Rattle.rules.specs.First.{_when_}
 use Rattle.rules.proofs.First.{silent}
 use Rattle.page83.specs.Page83 as Page83
 use Rattle.page83.specs.Page83.{write}
@@ -28,7 +27,7 @@ use Rattle.intake.specs.declared.Intake.{Intake}
 use Rattle.intake.specs.Intake as Intake
 use Rattle.intake.specs.Intake.{taken, wrongIntake, blockOf, usedBy}
 use Rattle.received.specs.Received as Received
-use Rattle.received.specs.Received.{inquiryOf, gatherOf, rollOf, gathered, wrongRun}
+use Rattle.received.specs.Received.{inquiryOf, gatherOf, rollOf, gathered}
 use Rattle.demands.specs.Promises.{Refused, RefusalsChangeNothing}
 
 -- An outcome that is `accepted`, which carries 0, or that of a refusal. One that carries a number is that number's.
@@ -129,12 +128,7 @@ of-inquiry-from-intake have store command signature texts reply room sense h = b
 rolled-zero : (haves stores room rows : List ℕ) → Received.refusalOf haves stores (length room) (length rows) ≡ 0 → Received.rolled (gathered haves stores) room rows .counted .number ≡ 0
 unfolding Received.refusalOf roll
 rolled-zero haves stores room rows e =
-    let c = silent
-    ((1 when wrongRun haves (length stores))
-    ∷ (1 when not (eqb (Roll.refusalOf (gathered haves stores) (length rows)) 0))
-    ∷ (8 when ltb (length room) (length (gathered haves stores)))
-    ∷ [])
-    refl e in
+    let c = silent (Received.checks haves stores (length room) (length rows)) refl e in
     rw (not-false (eqb (Roll.refusalOf (gathered haves stores) (length rows)) 0) (c .1 .0))
 
 of-roll-of-intakes : (haves stores room rows : List ℕ) → Refused (rollOf haves stores room rows .counted .number) → rollOf haves stores room rows ≡ Received.outcome (record { number = rollOf haves stores room rows .counted .number; blocks = 0; drives = 0 }) room rows

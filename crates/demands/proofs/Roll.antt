@@ -10,13 +10,12 @@ use lib.Dec.{eqb, ltb}
 use lib.ListN.{length, getD, take, drop, length-append, List·getD-append}
 use lib.Seq.{getD-append-seam, getD-append-add, getD-drop, take-nil, drop-nil, take-take, take-all, length-take-le}
 use borrow.Author.Tests.{eqb-true, ltb-false, not-false, eq-eqb, le-ltb}
-use Rattle.rules.specs.First.{_when_}
 use Rattle.rules.proofs.First.{silent}
 use Rattle.room.specs.Room.{written}
 use Rattle.room.proofs.Laws.{written-front, length-written}
 use Rattle.identify.specs.Drive.{sameDrive}
 use Rattle.identify.proofs.Drive.{same-drive-self, same-drive-turned-round, same-drive-through}
-use Rattle.roll.specs.Roll.{blocksIn, blocks, blockAt, known, met, drivesFrom, drives, rowIn, rows, refusalOf, Outcome, roll}
+use Rattle.roll.specs.Roll.{blocksIn, blocks, blockAt, known, met, drivesFrom, drives, rowIn, rows, checks, refusalOf, Outcome, roll}
 use Rattle.roll.specs.Roll as Roll
 use Rattle.roll.proofs.Laws.{blocks-more, length-blocks, block-of, known-append, known-met, known-drives, drives-append, drives-more, row-same, row-kept, row-new, rows-more, each-known, row-at, length-rows, read-row, unknown, same-either-way}
 use Rattle.demands.specs.Promises.{rowAt, Rolled, RollOfDrives}
@@ -164,9 +163,7 @@ module _ (bytes room : List ℕ) where
   fits : refusalOf bytes (length room) ≡ 0 → Fits
   unfolding refusalOf
   fits e =
-      let c = silent
-      ((1 when not (eqb (length bytes % 512) 0)) ∷ (1 when ltb 32768 (length bytes)) ∷ (1 when ltb (length room) (length bytes / 512)) ∷ [])
-      refl e in
+      let c = silent (checks bytes (length room)) refl e in
       record {
         whole = eqb-true _ _ (not-false _ (c .0));
         few = ltb-false _ _ (c .1 .0);

@@ -4,7 +4,7 @@ use mathlib.Core.List.{List, [], _∷_, _++_}
 use Prim.Native.Nat.{ℕ}
 use lib.Dec.{eqb, ltb}
 use lib.ListN.{length}
-use Rattle.rules.specs.First.{_when_, first}
+use Rattle.rules.specs.First.{Check, _when_, first}
 use Rattle.room.specs.Room.{written}
 use Rattle.identify.specs.Block.{serial, model, name}
 use Rattle.texts.specs.Text.{turned, spaced}
@@ -30,11 +30,14 @@ page83 block =
     (textPage (spaced (turned (model block))) (spaced (turned (serial block))))
 
 -- The writer, for whoever has a block and room: 1 where the block is not 512 bytes, 8 where the room is shorter than the page.
-unfoldable pub refusalOf : List ℕ → ℕ → ℕ
-refusalOf block room = first
-    ((1 when not (eqb (length block) 512))
+abbrev pub checks : List ℕ → ℕ → List Check
+checks block room =
+    (1 when not (eqb (length block) 512))
     ∷ (8 when ltb room (length (page83 block)))
-    ∷ [])
+    ∷ []
+
+unfoldable pub refusalOf : List ℕ → ℕ → ℕ
+refusalOf block room = first (checks block room)
 
 -- Everything that comes back, and every lent byte that can change.
 pub record Outcome : Type 0 where

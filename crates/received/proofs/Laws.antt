@@ -6,11 +6,11 @@ use Prim.Native.Nat.{ℕ, zero, suc, _+_, _-_, _*_, _/_, _%_, _≤_, _<_}
 use native.Mathlib.Omega.{arith}
 use lib.Dec.{eqb, ltb}
 use lib.ListN.{length, getD, take, drop, length-take, length-drop, length-append, drop-of-length-le}
-use lib.Seq.{drop-cons, drop-drop, take-all, take-append-seam}
+use lib.Seq.{drop-cons, drop-drop}
 use borrow.Author.Tests.{eqb-true, lt-ltb, le-ltb, ltb-true, ltb-false, not-false}
 use Rattle.rules.proofs.First.{neither}
 use Rattle.room.specs.Room.{written, Wrote}
-use Rattle.room.proofs.Laws.{written-append, written-front, length-written}
+use Rattle.room.proofs.Laws.{written-append, length-written}
 use Rattle.intake.specs.Intake.{wrongIntake, complete, blockOf}
 use Rattle.roll.specs.Roll as Roll
 use Rattle.received.specs.Received.{claimsTooMuch, gathered, wrongRun, gatherRefusal, gatherOutcome, given, gatherOf, refusalOf, Outcome, outcome, rolled, rollOf}
@@ -115,10 +115,6 @@ module _ {haves stores before room : List ℕ} {at i : ℕ} (g : Gathering haves
   pub all-gathered : length haves ≤ i → Wrote before 0 (gathered haves stores) room
   unfolding gathered
   all-gathered h = record { leaves = rw (drop-of-length-le haves {i = i} h) at (g .left) }
-
--- What fits into room stands at its front.
-pub front : (room bytes : List ℕ) → length bytes ≤ length room → take (length bytes) (written room 0 bytes) ≡ bytes
-front room bytes h = rw (written-front room bytes, take-all (length room) bytes h) (take-append-seam bytes (drop (length bytes) room))
 
 -- A run that is not refused has 512 bytes of store for each intake.
 pub fits : (haves : List ℕ) (stores : ℕ) → wrongRun haves stores ≡ false → stores ≡ 512 * length haves

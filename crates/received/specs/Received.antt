@@ -4,7 +4,7 @@ use mathlib.Core.List.{List, [], _∷_, _++_}
 use Prim.Native.Nat.{ℕ, zero, suc, _+_, _*_}
 use lib.Dec.{eqb, ltb}
 use lib.ListN.{length, take, drop}
-use Rattle.rules.specs.First.{_when_, first}
+use Rattle.rules.specs.First.{Check, _when_, first}
 use Rattle.room.specs.Room.{written}
 use Rattle.intake.specs.Intake.{wrongIntake, complete, blockOf}
 use Rattle.inquiry_checks.specs.Request.{request}
@@ -36,11 +36,14 @@ abbrev pub wrongRun : List ℕ → ℕ → Bool
 wrongRun haves stores = not (eqb stores (512 * length haves)) || claimsTooMuch haves
 
 -- Gathering them: 8 where the room is shorter than their bytes.
-unfoldable pub gatherRefusal : List ℕ → List ℕ → ℕ → ℕ
-gatherRefusal haves stores room = first
-    ((1 when wrongRun haves (length stores))
+abbrev pub gatherChecks : List ℕ → List ℕ → ℕ → List Check
+gatherChecks haves stores room =
+    (1 when wrongRun haves (length stores))
     ∷ (8 when ltb room (length (gathered haves stores)))
-    ∷ [])
+    ∷ []
+
+unfoldable pub gatherRefusal : List ℕ → List ℕ → ℕ → ℕ
+gatherRefusal haves stores room = first (gatherChecks haves stores room)
 
 pub record GatherOutcome : Type 0 where
   pub gathered : Gathered
@@ -59,12 +62,15 @@ gatherOf haves stores room =
     (gatherOutcome (given (gatherRefusal haves stores (length room)) 0) room)
 
 -- The roll of a run: 1 where the intakes or the roll of their blocks would be refused, 8 where room is short of the blocks.
-unfoldable pub refusalOf : List ℕ → List ℕ → ℕ → ℕ → ℕ
-refusalOf haves stores room rows = first
-    ((1 when wrongRun haves (length stores))
+abbrev pub checks : List ℕ → List ℕ → ℕ → ℕ → List Check
+checks haves stores room rows =
+    (1 when wrongRun haves (length stores))
     ∷ (1 when not (eqb (Roll.refusalOf (gathered haves stores) rows) 0))
     ∷ (8 when ltb room (length (gathered haves stores)))
-    ∷ [])
+    ∷ []
+
+unfoldable pub refusalOf : List ℕ → List ℕ → ℕ → ℕ → ℕ
+refusalOf haves stores room rows = first (checks haves stores room rows)
 
 -- Everything that comes back, and everything lent that can change.
 pub record Outcome : Type 0 where

@@ -4,7 +4,7 @@ use mathlib.Core.List.{List, [], _∷_, _++_, map}
 use Prim.Native.Nat.{ℕ, zero, suc, _*_, _/_, _%_}
 use lib.Dec.{eqb, ltb}
 use lib.ListN.{length, take, drop}
-use Rattle.rules.specs.First.{_when_, first}
+use Rattle.rules.specs.First.{Check, _when_, first}
 use Rattle.room.specs.Room.{written}
 use Rattle.identify.specs.Drive.{sameDrive}
 use Rattle.roll.specs.declared.Counted.{Counted}
@@ -47,12 +47,15 @@ abbrev pub rows : List (List ℕ) → List ℕ
 rows run = map (rowIn (drives run)) run
 
 -- 1: bytes that are no whole number of blocks, more than 64 blocks, or fewer entries of room than blocks.
-unfoldable pub refusalOf : List ℕ → ℕ → ℕ
-refusalOf bytes room = first
-    ((1 when not (eqb (length bytes % 512) 0))
+abbrev pub checks : List ℕ → ℕ → List Check
+checks bytes room =
+    (1 when not (eqb (length bytes % 512) 0))
     ∷ (1 when ltb 32768 (length bytes))
     ∷ (1 when ltb room (length bytes / 512))
-    ∷ [])
+    ∷ []
+
+unfoldable pub refusalOf : List ℕ → ℕ → ℕ
+refusalOf bytes room = first (checks bytes room)
 
 -- Everything that comes back, and every lent entry that can change.
 pub record Outcome : Type 0 where

@@ -5,9 +5,9 @@ use native.Mathlib.Omega.{arith}
 use lib.ListN.{length}
 use lib.Seq.{length-take-le}
 use borrow.Author.Tests.{lt-ltb, le-ltb}
-use Rattle.room.proofs.Laws.{length-written}
+use Rattle.room.proofs.Laws.{length-written, front}
 use Rattle.received.specs.Received.{gathered}
-use Rattle.received.proofs.Laws.{fits, roll-refused, too-many, too-few-rows, roll-short, roll-served, front, length-gathered}
+use Rattle.received.proofs.Laws.{fits, roll-refused, too-many, too-few-rows, roll-short, roll-served, length-gathered}
 use borrow.Author.Needs.{needs}
 use Rattle.received.proofs.roll.Statement.{statement}
 use Rattle.received.proofs.roll.Tie as tie
