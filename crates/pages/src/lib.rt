@@ -122,6 +122,15 @@ fn put_zeros(room: &mut [u8], at: usize)
     room::put(room, at, &ZEROS);
 }
 
+// The 512 bytes of a block, as a part of known length.
+fn whole(block: &[u8]) -> &[u8]
+    requires { ⌜ length (now block) ≡ 512 ⌝ }
+    ensures bytes { λ r. ⌜ now r ≡ now (block .entry) ⌝ }
+    ensures size { λ r. ⌜ length (now r) ≡ 512 ⌝ }
+{
+    &block[..512]
+}
+
 fn put_block(room: &mut [u8], at: usize, block: &[u8])
     requires { ⌜ WholeOrNone (now block) ⌝ }
     ensures { λ _. ⌜ Wrote (now (room .entry)) at (blockOrZeros (now (block .entry))) (now (room .exit)) ⌝ }
@@ -130,7 +139,7 @@ fn put_block(room: &mut [u8], at: usize, block: &[u8])
         put_zeros(room, at);
         return;
     }
-    room::put(room, at, &block[..512]);
+    room::put(room, at, whole(block));
 }
 
 // Page 89h, ATA information.

@@ -61,11 +61,11 @@ pub extern "C" fn piongseut_submit(
     ensures { λ r. ⌜ submitOutcome (record { next = now (state .exit); taken = r }) (now (sense .exit)) ≡ submitRule (now (state .entry)) (now (command .entry)) (now (registers .entry)) declared (now (sense .entry)) ⌝ }
 {
     let p = *state;
-    let a = p.submit(command, registers, declared, sense);
-    if a.next.state != p.state {
-        *state = a.next;
+    let submitted = p.submit(command, registers, declared, sense);
+    if submitted.next.state != p.state {
+        *state = submitted.next;
     }
-    a.taken
+    submitted.taken
 }
 
 // Ends the order that the record holds, and updates the record that is lent, as `piongseut_submit` does.
@@ -78,11 +78,11 @@ pub extern "C" fn piongseut_complete(
     ensures { λ r. ⌜ completeOutcome (record { next = now (state .exit); ended = r }) (now (sense .exit)) ≡ completeRule (now (state .entry)) (now (registers .entry)) (now (sense .entry)) ⌝ }
 {
     let p = *state;
-    let a = p.complete(registers, sense);
-    if a.next.state != p.state {
-        *state = a.next;
+    let completed = p.complete(registers, sense);
+    if completed.next.state != p.state {
+        *state = completed.next;
     }
-    a.ended
+    completed.ended
 }
 
 // Writes the page 83h of a block.

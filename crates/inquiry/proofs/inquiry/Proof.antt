@@ -101,7 +101,8 @@ slice-relend-prefix-put-page : tie.Need-slice-relend-prefix-put-page
 slice-relend-prefix-put-page c = search needs
 
 slice-aggregate-put-page : tie.Need-slice-aggregate-put-page
-slice-aggregate-put-page c = sym (length-take-le _ _ (c .before .if3 .left))
+slice-aggregate-put-page c =
+    sym (length-take-le _ (c .before .before .before .before .before .before .before .before .before .before .before .before .before .before .before .before .before .args .room .now) (omega arith))
 
 put-page-requires : tie.Need-put-page-requires
 put-page-requires c κs = here (c .before .before .before .before .before .before .before .before) .servable (served-here (c .before .before .before .before))

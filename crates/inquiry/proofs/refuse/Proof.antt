@@ -10,7 +10,7 @@ same-length : tie.Need-same-length
 same-length c = search needs
 
 returns : tie.Need-returns
-returns c = (rw (c .before .before .refuse .ensures .0), c .before .before .refuse .ensures .1)
+returns c = (rw (← c .before .before .refuse .ensures .0), c .before .before .refuse .ensures .1)
 
 pub refuse-spec : {M : Type 1} → statement M
 refuse-spec = tie.close (tie.spec refuse-requires same-length returns)

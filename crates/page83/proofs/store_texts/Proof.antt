@@ -2,7 +2,9 @@
 use mathlib.Core.Path.{refl}
 use native.Mathlib.Omega.{arith}
 use Rattle.room.proofs.Laws.{beside}
+use Rattle.identify.specs.Block.{model}
 use Rattle.identify.proofs.Block.{length-serial, length-model}
+use Rattle.texts.specs.Text.{turned, spaced}
 use Rattle.page83.proofs.Laws.{length-model-text}
 use borrow.Author.Needs.{needs}
 use Rattle.page83.proofs.store_texts.Statement.{statement}
@@ -39,7 +41,7 @@ returns c =
     let p = c .before .before .before .before .before .before .before in
     let h = c .before .before .before .before .before .before .before .before .before .before .before .before in
     let a = c .before .before .before .before .before .before .before .before .before .before .before .before .before .before .before .before .before in
-    beside (beside (h .store .ensures) (rw (p .before .model .ensures) at (p .store-spaced .ensures)) refl)
+    beside (beside {t = spaced (turned (model (a .args .block .now)))} (h .store .ensures) (rw (p .before .model .ensures) at (p .store-spaced .ensures)) refl)
     (rw (s .serial .ensures) at (c .before .before .store-spaced2 .ensures)) (omega (arith, length-model-text (a .args .block .now) (a .pre .0)))
 
 pub store-texts-spec : {M : Type 1} → statement M

@@ -1,6 +1,7 @@
 -- `names_drive`: the size, the head, then what follows it.
 use mathlib.Core.Path.{_∙_, sym}
 use native.Mathlib.Omega.{arith}
+use lib.ListN.{length}
 use lib.Seq.{length-take-le}
 use Rattle.page83_reader.proofs.Zero.{to-the-end}
 use borrow.Author.Tests.{eq-eqb, ne-eqb}
@@ -9,7 +10,7 @@ use Rattle.page83_reader.proofs.names_drive.Statement.{statement}
 use Rattle.page83_reader.proofs.names_drive.Tie as tie
 
 returns : tie.Need-returns
-returns c = rw (ne-eqb _ _ (c .if1 .taken))
+returns c = rw (ne-eqb (length (c .before .before .args .page .now)) 16 (λ whole. omega (arith, whole)))
 
 slice-aggregate-same-bytes : tie.Need-slice-aggregate-same-bytes
 slice-aggregate-same-bytes c =
@@ -34,10 +35,10 @@ some-bit-requires : tie.Need-some-bit-requires
 some-bit-requires c κs = search needs
 
 returns-2 : tie.Need-returns-2
-returns-2 c = rw (eq-eqb _ _ (c .before .before .before .before .before .before .if1 .left), sym (c .before .before .before .same-bytes .ensures) ∙ c .before .before .if2 .taken) (rw (to-the-end 8 (c .before .before .before .before .before .before .before .before .args .page .now)) at (c .some-bit .ensures))
+returns-2 c = rw (eq-eqb (length (c .before .before .before .before .before .before .before .before .args .page .now)) 16 (omega arith), sym (c .before .before .before .same-bytes .ensures) ∙ c .before .before .if2 .taken) (rw to-the-end at (c .some-bit .ensures))
 
 returns-3 : tie.Need-returns-3
-returns-3 c = rw (eq-eqb _ _ (c .before .before .before .before .if1 .left), sym (c .before .same-bytes .ensures) ∙ c .if2 .left)
+returns-3 c = rw (eq-eqb (length (c .before .before .before .before .before .before .args .page .now)) 16 (omega arith), sym (c .before .same-bytes .ensures) ∙ c .if2 .left)
 
 pub names-drive-spec : {M : Type 1} → statement M
 names-drive-spec =

@@ -1,6 +1,7 @@
 -- `tells_texts`: the size, the head, then what follows it.
 use mathlib.Core.Path.{_∙_, sym}
 use native.Mathlib.Omega.{arith}
+use lib.ListN.{length}
 use lib.Seq.{length-take-le}
 use Rattle.page83_reader.proofs.Zero.{to-the-end}
 use borrow.Author.Tests.{eq-eqb, ne-eqb}
@@ -9,7 +10,7 @@ use Rattle.page83_reader.proofs.tells_texts.Statement.{statement}
 use Rattle.page83_reader.proofs.tells_texts.Tie as tie
 
 returns : tie.Need-returns
-returns c = rw (ne-eqb _ _ (c .if1 .taken))
+returns c = rw (ne-eqb (length (c .before .before .args .page .now)) 76 (λ whole. omega (arith, whole)))
 
 slice-aggregate-same-bytes : tie.Need-slice-aggregate-same-bytes
 slice-aggregate-same-bytes c =
@@ -34,10 +35,10 @@ no-zero-requires : tie.Need-no-zero-requires
 no-zero-requires c κs = search needs
 
 returns-2 : tie.Need-returns-2
-returns-2 c = rw (eq-eqb _ _ (c .before .before .before .before .before .before .if1 .left), sym (c .before .before .before .same-bytes .ensures) ∙ c .before .before .if2 .taken) (rw (to-the-end 16 (c .before .before .before .before .before .before .before .before .args .page .now)) at (c .no-zero .ensures))
+returns-2 c = rw (eq-eqb (length (c .before .before .before .before .before .before .before .before .args .page .now)) 76 (omega arith), sym (c .before .before .before .same-bytes .ensures) ∙ c .before .before .if2 .taken) (rw to-the-end at (c .no-zero .ensures))
 
 returns-3 : tie.Need-returns-3
-returns-3 c = rw (eq-eqb _ _ (c .before .before .before .before .if1 .left), sym (c .before .same-bytes .ensures) ∙ c .if2 .left)
+returns-3 c = rw (eq-eqb (length (c .before .before .before .before .before .before .args .page .now)) 76 (omega arith), sym (c .before .same-bytes .ensures) ∙ c .if2 .left)
 
 pub tells-texts-spec : {M : Type 1} → statement M
 tells-texts-spec =

@@ -1,7 +1,4 @@
 -- `put_block`: the block, or the zeros that stand in for it.
-use mathlib.Core.Path.{sym}
-use native.Mathlib.Omega.{arith}
-use lib.Seq.{length-take-le, take-all}
 use borrow.Author.Tests.{eq-eqb, ne-eqb}
 use borrow.Author.Needs.{needs}
 use Rattle.pages.proofs.put_block.Statement.{statement}
@@ -16,10 +13,8 @@ same-length c = search needs
 returns : tie.Need-returns
 returns c = rw (eq-eqb _ _ (c .before .before .before .before .if1 .taken)) (c .before .before .put-zeros .ensures)
 
-slice-aggregate-put : tie.Need-slice-aggregate-put
-slice-aggregate-put c =
-    let b = c .before .before .before .before .before in
-    sym (length-take-le 512 (b .args .block .now) (omega (arith, b .pre (c .before .before .if1 .left))))
+whole-requires : tie.Need-whole-requires
+whole-requires c κs = c .before .before .before .before .pre (c .before .if1 .left)
 
 put-requires : tie.Need-put-requires
 put-requires c κs = search needs
@@ -29,11 +24,10 @@ same-length-2 c = search needs
 
 returns-2 : tie.Need-returns-2
 returns-2 c =
-    let b = c .before .before .before .before .before .before .before .before in
-    let some = c .before .before .before .before .before .if1 .left in
-    rw (ne-eqb _ _ some) (rw (take-all 512 (b .args .block .now) (omega (arith, b .pre some))) at (c .before .before .put .ensures))
+    let w = c .before .before .before in
+    rw (ne-eqb _ _ (w .before .before .if1 .left)) (rw (w .whole .ensures .0) at (c .before .before .put .ensures))
 
 pub put-block-spec : {M : Type 1} → statement M
 put-block-spec =
     tie.close
-    (tie.spec put-zeros-requires same-length returns slice-aggregate-put put-requires same-length-2 returns-2)
+    (tie.spec put-zeros-requires same-length returns whole-requires put-requires same-length-2 returns-2)
