@@ -345,7 +345,7 @@ class Trial:
 
     def rollcall(self):
         """The program: every line that it prints."""
-        ran = subprocess.run(["bash", "-c", ". tests/program.sh && program rollcall"], input=self.bytes("input"), capture_output=True)
+        ran = subprocess.run(["./run", "rollcall"], input=self.bytes("input"), capture_output=True)
         lines = iter(ran.stdout.decode("ascii").splitlines())
         return Outcome({}, {"prints": lambda text: self.want("prints", text, next(lines, "nothing"))},
                        lambda named: self.want("more lines, standard error", ([], b""), (list(lines), ran.stderr)))
