@@ -40,6 +40,7 @@ static void put_text(uint8_t *block, size_t word, size_t size, const char *text)
         block[2 * word + (i ^ 1)] = i < length ? (uint8_t)text[i] : ' ';
 }
 
+/* Written from docs/RULES.md 5 once more and not shared with tools/identify.py: readings of a block that share nothing judge each other. */
 static void put_name(uint8_t *block, unsigned long long name)
 {
     for (size_t i = 0; i < 4; i++) {
