@@ -1,5 +1,6 @@
 //! The board's work in plain Rust, unproved, and safe but for the C calls at the end: what bench/run sets beside the board's own.
-//! It is written from the rules and from include/piongseut.h. `Err` holds a refusal number.
+//! It is written from the rules and from include/piongseut.h, and reads IDENTIFY blocks on its own, not as tools/identify.py or the
+//! second program does: readings that share nothing judge each other. `Err` holds a refusal number.
 
 const GOOD: u8 = 0x00;
 const CHECK_CONDITION: u8 = 0x02;

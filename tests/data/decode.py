@@ -1,41 +1,21 @@
 #!/usr/bin/env python3
-"""Reads IDENTIFY blocks without the board, from the words' definition in the ATA standard, and prints what crates/labels
-must print of them: the stored output of that program is held against this. A drive's row is its place among the drives
-met so far, from 1."""
+"""Prints of the IDENTIFY blocks on standard input what crates/labels must print of them, from docs/RULES.md and without the board:
+the stored output of that program is held against this. A drive's row is its place among the drives met so far, from 1."""
+import pathlib
 import sys
 
-
-def words(block, first, last):
-    """Each word of the range, bytes 2w (bits 7:0) and 2w+1 (bits 15:8)."""
-    return [int.from_bytes(block[2 * w:2 * w + 2], "little") for w in range(first, last + 1)]
-
-
-def text(block, first, last):
-    """A text has two letters a word, the first in bits 15:8; a zero byte is shown as a space."""
-    raw = b"".join(w.to_bytes(2, "big") for w in words(block, first, last))
-    return raw.replace(b"\0", b" ")
-
-
-def name(block):
-    return "".join("%04x" % w for w in words(block, 108, 111))
-
-
-def drive(block):
-    """What tells drives apart: the name where there is one, else model and serial number."""
-    if any(words(block, 108, 111)):
-        return name(block)
-    return (text(block, 27, 46), text(block, 10, 19))
+sys.path.insert(0, str(pathlib.Path(__file__).resolve().parents[2] / "tools"))
+import identify
 
 
 def main():
-    data = sys.stdin.buffer.read()
     met = []
-    for place, block in enumerate(data[i:i + 512] for i in range(0, len(data), 512)):
-        shown = "name " + name(block) if any(words(block, 108, 111)) else "no name"
-        if drive(block) not in met:
-            met.append(drive(block))
-        row = 1 + met.index(drive(block))
-        line = b"%d [%s] [%s] %s drive %d\n" % (place, text(block, 27, 46), text(block, 10, 19), shown.encode(), row)
+    for place, block in enumerate(identify.blocks(sys.stdin.buffer.read())):
+        shown = "name " + identify.name(block).hex() if identify.carries_name(block) else "no name"
+        if not any(identify.same_drive(drive, block) for drive in met):
+            met.append(block)
+        row = 1 + [identify.same_drive(drive, block) for drive in met].index(True)
+        line = b"%d [%s] [%s] %s drive %d\n" % (place, identify.model(block), identify.serial(block), shown.encode(), row)
         sys.stdout.buffer.write(line)
 
 

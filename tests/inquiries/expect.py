@@ -1,14 +1,18 @@
 #!/usr/bin/env python3
 """What the program `inquiries` must print for the IDENTIFY blocks on standard input.
 
-Written from docs/RULES.md, sections 4 to 7, and from nothing of the board's own. A line is: the block's place, what is asked,
+Written from docs/RULES.md, sections 4 to 7, section 5 by tools/identify.py, and from nothing of the board's own. A line is: the block's place, what is asked,
 the number, the status, how many bytes are shown, the bytes. What the program lends besides the blocks stands here too: the
 translator's texts, a disk's signature, and a packet drive that tells its own standard data. The packet drive's list of pages
 cannot be told from the output: with and without 89h in it, it must come to the same page.
 """
+import pathlib
 import sys
 
-BLOCK = 512
+sys.path.insert(0, str(pathlib.Path(__file__).resolve().parents[2] / 'tools'))
+import identify
+
+BLOCK = identify.SIZE
 TEXTS = b'PIONG   ' + b'SAT BRIDGE      ' + b'4   '
 DISK = bytes.fromhex('3400500101' + '00' * 7 + '01' + '00' * 7)
 PACKET_STANDARD = bytes.fromhex('058005021F000000') + b'PIONG   ' + b'PACKET DRIVE    ' + b'1.0 '
@@ -16,27 +20,10 @@ PACKET_LISTS = ('050000 03 008083', '050000 04 00808389')
 WHOLE = 0xFFFF
 
 
-def words(block, first, last):
-    """Words first to last, each high byte first (5)."""
-    return b''.join(bytes((block[2 * w + 1], block[2 * w])) for w in range(first, last + 1))
-
-
-def spaced(text):
-    return text.replace(b'\0', b' ')
-
-
-def model(block):
-    return words(block, 27, 46)
-
-
-def serial(block):
-    return spaced(words(block, 10, 19))
-
-
 def standard(block):
     """6.1"""
     removable = block[0] & 0x80
-    return bytes((0x00, removable)) + bytes.fromhex('05021F000000') + b'ATA     ' + model(block)[:16] + b'    '
+    return bytes((0x00, removable)) + bytes.fromhex('05021F000000') + b'ATA     ' + identify.turned(block, identify.MODEL)[:16] + b'    '
 
 
 def page_00(block):
@@ -46,15 +33,14 @@ def page_00(block):
 
 def page_80(block):
     """6.3"""
-    return bytes.fromhex('00800014') + serial(block)
+    return bytes.fromhex('00800014') + identify.serial(block)
 
 
 def page_83(block):
     """6.4"""
-    name = words(block, 108, 111)
-    if any(name):
-        return bytes.fromhex('0083000C 01030008') + name
-    return bytes.fromhex('00830048 02010044') + b'ATA     ' + spaced(model(block)) + serial(block)
+    if identify.carries_name(block):
+        return bytes.fromhex('0083000C 01030008') + identify.name(block)
+    return bytes.fromhex('00830048 02010044') + b'ATA     ' + identify.model(block) + identify.serial(block)
 
 
 def page_89(block):

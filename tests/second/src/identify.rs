@@ -1,4 +1,5 @@
-//! The fields of an IDENTIFY block of 512 bytes (RULES 5).
+//! The fields of an IDENTIFY block of 512 bytes (RULES 5), read here on their own
+//! and not as `tools/identify.py` does: readings that share nothing judge each other.
 
 /// A word has its low byte first.
 pub fn word(block: &[u8], w: usize) -> u16 {
