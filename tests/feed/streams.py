@@ -10,6 +10,12 @@ def run(data):
     return len(data).to_bytes(2, "big") + data
 
 
+def shown(byte):
+    if byte == 0x5C:
+        return "\\\\"
+    return chr(byte) if 0x20 <= byte <= 0x7E else f"\\x{byte:02x}"
+
+
 def name_line(block):
     words = block[216:224]
     if any(words):
@@ -17,7 +23,7 @@ def name_line(block):
     def text(first, last):
         field = block[first:last]
         turned = b"".join(field[i + 1 : i + 2] + field[i : i + 1] for i in range(0, len(field), 2))
-        return turned.replace(b"\0", b" ").decode("latin-1")
+        return "".join(map(shown, turned.replace(b"\0", b" ")))
     return f"text [{text(54, 94)}] [{text(20, 40)}]"
 
 
@@ -53,6 +59,11 @@ def cases(blocks):
     unnamed = bytearray(block)
     unnamed[216:224] = bytes(8)
     yield "no-name", [bytes(unnamed[:300]), bytes(unnamed[300:])]
+    every = bytes(range(256)) + bytes(44)
+    for i in range(0, 300, 60):
+        unnamed[20:40] = every[i : i + 20]
+        unnamed[54:94] = every[i + 20 : i + 60]
+        yield f"every-byte-{i}", [bytes(unnamed)]
     seeded = random.Random(6)
     for i in range(40):
         stream = seeded.choice(blocks)[1] + seeded.randbytes(seeded.randrange(200))
@@ -69,4 +80,4 @@ folder = pathlib.Path(sys.argv[2])
 files = sorted(pathlib.Path(sys.argv[1]).glob("*.bin"))
 for name, runs in cases([(file.stem, file.read_bytes()) for file in files]):
     (folder / f"{name}.in").write_bytes(b"".join(map(run, runs)))
-    (folder / f"{name}.out").write_text(expected(runs), encoding="latin-1")
+    (folder / f"{name}.out").write_text(expected(runs), encoding="ascii")

@@ -1,9 +1,10 @@
-// Feed: an IDENTIFY block off the wire. Standard input is runs, each of two length bytes, high byte first, and that many bytes. They
+// Feed: an IDENTIFY block off the wire. The input is runs, each of two length bytes, high byte first, and that many bytes. They
 // go into an intake one after another; then come three lines: in which run the intake was complete and after how many bytes of it,
 // how many bytes it used in all, and the name that the block's page 83h tells.
+use input::Wanted;
 use intake::Intake;
-use libc::STDERR_FILENO;
-use libc::STDOUT_FILENO;
+use output::say;
+use output::say_text;
 ghost use Prim.Native.Nat.{_+_, _≤_};
 ghost use lib.ListN.{length};
 
@@ -84,17 +85,13 @@ fn feed(input: &[u8], store: &mut [u8]) -> Fed {
     fed
 }
 
-// Every function that prints answers whether all of it was written.
-fn say(text: &[u8]) -> bool {
-    io::write_all(STDOUT_FILENO, text)
-}
-
+// Every function that says something answers whether all of it was written.
 fn say_number(number: usize) -> bool {
-    io::print_decimal(STDOUT_FILENO, number as u64)
+    output::say_number(number as u64)
 }
 
 fn say_pair(high: u8, low: u8) -> bool {
-    io::print_hex(STDOUT_FILENO, rules::pair(high, low) as u64, 4)
+    output::say_hex(rules::pair(high, low) as u64, 4)
 }
 
 // The completion point.
@@ -124,9 +121,9 @@ fn say_page(page: &[u8], count: usize) -> bool {
             && say(b"\n");
     }
     say(b"text [")
-        && say(rules::part(page, 16, 56))
+        && say_text(rules::part(page, 16, 56))
         && say(b"] [")
-        && say(rules::part(page, 56, 76))
+        && say_text(rules::part(page, 56, 76))
         && say(b"]\n")
 }
 
@@ -148,37 +145,46 @@ fn say_name(intake: Intake, store: &[u8]) -> bool {
     say_block(intake::block(intake.have, store))
 }
 
-fn complain(text: &[u8]) {
-    io::write_all(STDERR_FILENO, text);
-}
-
-// The runs of one stream, and what they came to.
-fn run(input: &[u8]) {
+// The runs of one stream and what they came to, or a complaint of input that is not such runs.
+fn report(input: &[u8]) -> bool {
+    if input.len() > 65536 {
+        output::complain(b"feed", b"more than 65536 bytes");
+        return true;
+    }
     let mut store = [0u8; 512];
     let fed = feed(input, &mut store);
     if fed.broken != 0 {
-        complain(b"feed: the input ends inside run ");
-        io::print_decimal(STDERR_FILENO, fed.broken as u64);
-        complain(b"\n");
-        return;
+        output::complain_of(b"feed", b"the input ends inside run ", fed.broken as u64);
+        return true;
     }
     let held = fed.intake;
-    if !(say_point(fed.run, fed.byte) && say_used(held) && say_name(held, &store)) {
-        complain(b"feed: standard output could not be written\n");
-    }
+    say_point(fed.run, fed.byte) && say_used(held) && say_name(held, &store)
 }
 
+fn say_help() -> bool {
+    input::say_help(
+        b"feed",
+        b"Takes runs of an IDENTIFY block off the wire, and prints in which run the block was complete and after how many\n\
+        bytes of it, how many bytes were used in all, and the name that the block's page 83h tells. A byte of a text that is not\n\
+        printable is shown as \\x and two hexadecimal digits, a backslash as two.\n",
+        b"runs, in all up to 65536 bytes: each has two length bytes, high byte first, and that many bytes.\n",
+        b"crates/feed/stdin",
+    )
+}
+
+// The buffer has one byte more than may come, so that more is complained of and not cut.
 fn main() {
     let mut buffer = [0u8; 65537];
-    let got = input::read_all(&mut buffer);
-    if got.failed {
-        complain(b"feed: standard input could not be read\n");
-        return;
-    }
+    let got = input::take(b"feed", &mut buffer);
     let n = got.count;
-    if n == 65537 {
-        complain(b"feed: more than 65536 bytes\n");
-        return;
+    let wanted = got.wanted;
+    let written = match wanted {
+        Wanted::Read => report(&buffer[..n]),
+        Wanted::Help => say_help(),
+        Wanted::Version => input::say_version(b"feed"),
+        Wanted::Complained => true,
+    };
+    if !written {
+        output::complain(b"feed", b"standard output could not be written");
     }
-    run(&buffer[..n]);
 }

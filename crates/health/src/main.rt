@@ -1,9 +1,9 @@
-// Health: the health logger. For each register image of 11 bytes on standard input, which is what a drive left after SMART
+// Health: the health logger. For each register image of 11 bytes that it is given, which is what a drive left after SMART
 // RETURN STATUS, it sends that command through the board, reads the sense data that come back, and prints a line with the
 // drive's place and what it said. This is the health page that version three asked for as a write: here the command is
 // non-data, and the drive waits for nothing. What each answer stands for is in specs/Said, what is asked and how in specs/Asked.
-use libc::STDERR_FILENO;
-use libc::STDOUT_FILENO;
+use input::Wanted;
+use output::say;
 use passthrough::Pending;
 ghost use Prim.Native.Nat.{_+_, _*_, _≤_};
 ghost use mathlib.Core.Path.{_≡_};
@@ -114,27 +114,22 @@ fn ask(pending: Pending, registers: &[u8]) -> Asked
     end(next, registers)
 }
 
-fn say(text: &[u8]) -> bool {
-    io::write_all(STDOUT_FILENO, text)
-}
-
+// Every function that says something answers whether all of it was written.
 fn say_verdict(said: Said) -> bool {
     match said {
         Said::Healthy => say(b" healthy\n"),
         Said::Failing => say(b" failing\n"),
         Said::Unknown => say(b" unknown\n"),
-        Said::Error(error) => {
-            say(b" error ") && io::print_hex(STDOUT_FILENO, error as u64, 2) && say(b"\n")
-        }
+        Said::Error(error) => { say(b" error ") && output::say_hex(error as u64, 2) && say(b"\n") }
         Said::Refused(number) => {
-            say(b" refused ") && io::print_decimal(STDOUT_FILENO, number as u64) && say(b"\n")
+            say(b" refused ") && output::say_number(number as u64) && say(b"\n")
         }
     }
 }
 
 // The line of the drive at place i; false where it could not be written.
 fn line(i: usize, said: Said) -> bool {
-    io::print_decimal(STDOUT_FILENO, i as u64) && say_verdict(said)
+    output::say_number(i as u64) && say_verdict(said)
 }
 
 // The register image at place i.
@@ -163,27 +158,45 @@ fn drives(images: &[u8]) -> bool {
     true
 }
 
-fn complain(text: &[u8]) {
-    io::write_all(STDERR_FILENO, text);
+// A line for each image, or a complaint of input that is not such images.
+fn list(images: &[u8]) -> bool {
+    if images.len() > 45056 {
+        output::complain(b"health", b"more than 4096 drives");
+        return true;
+    }
+    if images.len() % 11 != 0 {
+        output::complain(
+            b"health",
+            b"the input is no whole number of register images of 11 bytes",
+        );
+        return true;
+    }
+    drives(images)
 }
 
+fn say_help() -> bool {
+    input::say_help(
+        b"health",
+        b"Prints for each drive its place from 0 and what it said to SMART RETURN STATUS: healthy, failing, unknown, error and\n\
+        its error register, or refused and the board's number.\n",
+        b"up to 4096 register images of 11 bytes each: error; count, LBA low, mid and high, high byte first; device; status.\n",
+        b"crates/health/stdin",
+    )
+}
+
+// The buffer has one byte more than 4096 images, so that more are complained of and not cut.
 fn main() {
     let mut buffer = [0u8; 45057];
-    let got = input::read_all(&mut buffer);
-    if got.failed {
-        complain(b"health: standard input could not be read\n");
-        return;
-    }
+    let got = input::take(b"health", &mut buffer);
     let n = got.count;
-    if n == 45057 {
-        complain(b"health: more than 4096 drives\n");
-        return;
-    }
-    if n % 11 != 0 {
-        complain(b"health: the input is no whole number of register images of 11 bytes\n");
-        return;
-    }
-    if !drives(&buffer[..n]) {
-        complain(b"health: standard output could not be written\n");
+    let wanted = got.wanted;
+    let written = match wanted {
+        Wanted::Read => list(&buffer[..n]),
+        Wanted::Help => say_help(),
+        Wanted::Version => input::say_version(b"health"),
+        Wanted::Complained => true,
+    };
+    if !written {
+        output::complain(b"health", b"standard output could not be written");
     }
 }

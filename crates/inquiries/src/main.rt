@@ -1,10 +1,10 @@
-// Inquiries: what the board answers to INQUIRY, a line for each answer. For each IDENTIFY block of 512 bytes on standard
-// input it is asked for standard data, for pages 00h, 80h, 83h and 89h, and for page 83h again with allocation length 5; at
-// the end for page 00h and standard data of one packet drive, whose own replies stand below. A line has the place, the page,
-// the refusal number, the status, the count, and the served bytes in hexadecimal. The stored output was checked with sg_inq
-// and sg_vpd of sg3-utils 1.46: the names, texts and words that they decode from it are those of the blocks.
-use libc::STDERR_FILENO;
-use libc::STDOUT_FILENO;
+// Inquiries: what the board answers to INQUIRY, a line for each answer. For each IDENTIFY block of 512 bytes of the input the
+// board is asked for standard data, for pages 00h, 80h, 83h and 89h, and for page 83h again with allocation length 5; at the
+// end for page 00h and standard data of one packet drive, whose own replies stand below. A line has the place, the page, the
+// refusal number, the status, the count, and the served bytes in hexadecimal. The stored output was checked with sg_inq and
+// sg_vpd of sg3-utils 1.46: the names, texts and words that they decode from it are those of the blocks.
+use input::Wanted;
+use output::say;
 ghost use Prim.Native.Nat.{_+_, _*_, _≤_};
 ghost use lib.ListN.{length};
 
@@ -22,17 +22,13 @@ fn signature(mid: u8, high: u8) -> [u8; 20] {
     frame
 }
 
-// Writes to standard output; false where that fails, here and below.
-fn say(text: &[u8]) -> bool {
-    io::write_all(STDOUT_FILENO, text)
-}
-
+// Every function that says something answers whether all of it was written.
 fn say_number(number: u64) -> bool {
-    say(b" ") && io::print_decimal(STDOUT_FILENO, number)
+    say(b" ") && output::say_number(number)
 }
 
 fn say_byte(byte: u8) -> bool {
-    io::print_hex(STDOUT_FILENO, byte as u64, 2)
+    output::say_hex(byte as u64, 2)
 }
 
 fn say_bytes(bytes: &[u8]) -> bool {
@@ -80,7 +76,7 @@ fn ask(command: &[u8], block: &[u8], signature: &[u8], reply: &[u8]) -> bool {
 
 // Asks for a page of the disk whose block stands at place i.
 fn ask_disk(i: usize, block: &[u8], command: &[u8]) -> bool {
-    io::print_decimal(STDOUT_FILENO, i as u64) && ask(command, block, &signature(0x00, 0x00), b"")
+    output::say_number(i as u64) && ask(command, block, &signature(0x00, 0x00), b"")
 }
 
 // Asks for every page, with an allocation length of 572 that cuts none, and last for page 83h cut to five bytes.
@@ -125,32 +121,45 @@ fn packet() -> bool {
         )
 }
 
+// The answers for all blocks and for the packet drive, or a complaint of input that is not such blocks.
+fn list(blocks: &[u8]) -> bool {
+    if blocks.len() > 32768 {
+        output::complain(b"inquiries", b"more than 64 blocks");
+        return true;
+    }
+    if blocks.len() % 512 != 0 {
+        output::complain(
+            b"inquiries",
+            b"the input is no whole number of blocks of 512 bytes",
+        );
+        return true;
+    }
+    disks(blocks) && packet()
+}
+
+fn say_help() -> bool {
+    input::say_help(
+        b"inquiries",
+        b"Prints what the board answers to INQUIRY, for each block and for one packet drive: its place from 0, the page, the\n\
+        refusal number, the status, the count, and the served bytes in hexadecimal.\n",
+        b"up to 64 IDENTIFY blocks of 512 bytes each.\n",
+        b"data/identify/*.bin",
+    )
+}
+
+// The buffer has one byte more than 64 blocks, so that more are complained of and not cut.
 fn main() {
     let mut buffer = [0u8; 32769];
-    let got = input::read_all(&mut buffer);
-    if got.failed {
-        io::write_all(
-            STDERR_FILENO,
-            b"inquiries: standard input could not be read\n",
-        );
-        return;
-    }
+    let got = input::take(b"inquiries", &mut buffer);
     let n = got.count;
-    if n == 32769 {
-        io::write_all(STDERR_FILENO, b"inquiries: more than 64 blocks\n");
-        return;
-    }
-    if n % 512 != 0 {
-        io::write_all(
-            STDERR_FILENO,
-            b"inquiries: the input is no whole number of blocks of 512 bytes\n",
-        );
-        return;
-    }
-    if !(disks(&buffer[..n]) && packet()) {
-        io::write_all(
-            STDERR_FILENO,
-            b"inquiries: standard output could not be written\n",
-        );
+    let wanted = got.wanted;
+    let written = match wanted {
+        Wanted::Read => list(&buffer[..n]),
+        Wanted::Help => say_help(),
+        Wanted::Version => input::say_version(b"inquiries"),
+        Wanted::Complained => true,
+    };
+    if !written {
+        output::complain(b"inquiries", b"standard output could not be written");
     }
 }

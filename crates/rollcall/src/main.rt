@@ -1,21 +1,14 @@
-// Rollcall: prints the roll of the IDENTIFY blocks of 512 bytes on standard input. The first line says how many blocks and how
+// Rollcall: prints the roll of the IDENTIFY blocks of 512 bytes that it is given. The first line says how many blocks and how
 // many drives there are; then comes a line for each block with its place from 0, its row, and what tells its drive: `wwn`
 // where the block carries a world wide name, `text` where model and serial number do. Input that is no roll is `refused 1`.
-use libc::STDERR_FILENO;
-use libc::STDOUT_FILENO;
+use input::Wanted;
+use output::say;
+use output::say_number;
 ghost use Prim.Native.Nat.{_+_, _*_, _≤_};
 ghost use mathlib.Core.Path.{_≡_};
 ghost use lib.ListN.{length};
 
-// Every function that prints answers whether all of it was written.
-fn say(text: &[u8]) -> bool {
-    io::write_all(STDOUT_FILENO, text)
-}
-
-fn say_number(number: u64) -> bool {
-    io::print_decimal(STDOUT_FILENO, number)
-}
-
+// Every function that says something answers whether all of it was written.
 fn say_refusal(number: u8) -> bool {
     say(b"refused ") && say_number(number as u64) && say(b"\n")
 }
@@ -70,22 +63,29 @@ fn say_roll(blocks: &[u8]) -> bool {
     say_blocks(blocks, &rows, counted.blocks as usize)
 }
 
+fn say_help() -> bool {
+    input::say_help(
+        b"rollcall",
+        b"Prints the roll: how many blocks and drives there are; then for each block its place from 0, its drive's row, and\n\
+        what tells the drive, wwn or text. Input that is no roll is: refused 1\n",
+        b"up to 64 IDENTIFY blocks of 512 bytes each.\n",
+        b"data/identify/*.bin",
+    )
+}
+
 // The buffer has one byte more than a roll may have, so that longer input is refused and not cut.
 fn main() {
     let mut buffer = [0u8; 32769];
-    let got = input::read_all(&mut buffer);
-    if got.failed {
-        io::write_all(
-            STDERR_FILENO,
-            b"rollcall: standard input could not be read\n",
-        );
-        return;
-    }
+    let got = input::take(b"rollcall", &mut buffer);
     let n = got.count;
-    if !say_roll(&buffer[..n]) {
-        io::write_all(
-            STDERR_FILENO,
-            b"rollcall: standard output could not be written\n",
-        );
+    let wanted = got.wanted;
+    let written = match wanted {
+        Wanted::Read => say_roll(&buffer[..n]),
+        Wanted::Help => say_help(),
+        Wanted::Version => input::say_version(b"rollcall"),
+        Wanted::Complained => true,
+    };
+    if !written {
+        output::complain(b"rollcall", b"standard output could not be written");
     }
 }

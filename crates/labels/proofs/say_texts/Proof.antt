@@ -8,16 +8,16 @@ use Rattle.labels.proofs.say_texts.Tie as tie
 model-requires : tie.Need-model-requires
 model-requires c κs = search needs
 
-say-text-requires : tie.Need-say-text-requires
-say-text-requires c κs =
+say-field-requires : tie.Need-say-field-requires
+say-field-requires c κs =
     let a = c .before .before in
     rw (c .model .ensures, length-model (a .args .block .now) (a .pre)) (omega arith, omega arith)
 
 serial-requires : tie.Need-serial-requires
 serial-requires c κs = search needs
 
-say-text-requires-2 : tie.Need-say-text-requires-2
-say-text-requires-2 c κs =
+say-field-requires-2 : tie.Need-say-field-requires-2
+say-field-requires-2 c κs =
     let a = c .before .before .before .before .before in
     rw (c .serial .ensures, length-serial (a .args .block .now) (a .pre)) (omega arith, omega arith)
 
@@ -32,8 +32,8 @@ say-texts-spec =
     tie.close
     (tie.spec
     model-requires
-    say-text-requires
+    say-field-requires
     serial-requires
-    say-text-requires-2
+    say-field-requires-2
     returns
     returns-2)

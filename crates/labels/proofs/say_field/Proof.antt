@@ -1,11 +1,11 @@
--- `say_text`: the front of the array that the text was written to.
+-- `say_field`: the front of the array that the text was written to.
 use mathlib.Core.Path.{sym}
 use native.Mathlib.Omega.{arith}
 use lib.Seq.{length-take-le}
 use Rattle.room.proofs.Laws.{length-written}
 use borrow.Author.Needs.{needs}
-use Rattle.labels.proofs.say_text.Statement.{statement}
-use Rattle.labels.proofs.say_text.Tie as tie
+use Rattle.labels.proofs.say_field.Statement.{statement}
+use Rattle.labels.proofs.say_field.Tie as tie
 
 slice-aggregate-put-spaced : tie.Need-slice-aggregate-put-spaced
 slice-aggregate-put-spaced c = search needs
@@ -22,19 +22,19 @@ say-requires c κs = search needs
 array-share-prefix-shown : tie.Need-array-share-prefix-shown
 array-share-prefix-shown c = search needs
 
-slice-aggregate-say-2 : tie.Need-slice-aggregate-say-2
-slice-aggregate-say-2 c =
+slice-aggregate-say-text : tie.Need-slice-aggregate-say-text
+slice-aggregate-say-text c =
     let w = c .before .before .before .before .before .put-spaced .ensures in
     sym (length-take-le _ _ (rw (w .leaves, length-written) (omega (arith, c .before .before .before .before .before .before .before .before .pre .0))))
 
+say-text-requires : tie.Need-say-text-requires
+say-text-requires c κs = search needs
+
+slice-aggregate-say-2 : tie.Need-slice-aggregate-say-2
+slice-aggregate-say-2 c = search needs
+
 say-requires-2 : tie.Need-say-requires-2
 say-requires-2 c κs = search needs
-
-slice-aggregate-say-3 : tie.Need-slice-aggregate-say-3
-slice-aggregate-say-3 c = search needs
-
-say-requires-3 : tie.Need-say-requires-3
-say-requires-3 c κs = search needs
 
 returns : tie.Need-returns
 returns c = search needs
@@ -42,8 +42,8 @@ returns c = search needs
 returns-2 : tie.Need-returns-2
 returns-2 c = search needs
 
-pub say-text-spec : {M : Type 1} → statement M
-say-text-spec =
+pub say-field-spec : {M : Type 1} → statement M
+say-field-spec =
     tie.close
     (tie.spec
     slice-aggregate-put-spaced
@@ -51,9 +51,9 @@ say-text-spec =
     slice-aggregate-say
     say-requires
     array-share-prefix-shown
+    slice-aggregate-say-text
+    say-text-requires
     slice-aggregate-say-2
     say-requires-2
-    slice-aggregate-say-3
-    say-requires-3
     returns
     returns-2)

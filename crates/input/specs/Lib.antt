@@ -1,0 +1,2 @@
+-- What a word asks a program for.
+pub mod Words

@@ -1,0 +1,2 @@
+-- What the programs show of a drive's texts.
+pub mod Shown
