@@ -69,8 +69,8 @@ extern "C" {
 #define PIONGSEUT_REFUSED_OPCODE 3           /* 02h, 05 20 00  an opcode that the function does not serve */
 #define PIONGSEUT_REFUSED_FIELD 4            /* 02h, 05 24 00  NACA; for INQUIRY also CMDDT, or a page code without EVPD */
 #define PIONGSEUT_REFUSED_PAGE 5             /* 02h, 05 24 00  EVPD and a page that is not 00h, 80h, 83h, 89h */
-#define PIONGSEUT_REFUSED_NO_BLOCK 6         /* 02h, 02 04 00  no IDENTIFY block, and standard data, 80h or 83h is asked */
-#define PIONGSEUT_REFUSED_UNUSABLE 7         /* 02h, 0B 00 00  page 00h is asked of a packet drive and its own is unusable */
+#define PIONGSEUT_REFUSED_NO_BLOCK 6         /* 02h, 02 04 00  standard data, 80h or 83h of a drive that gave no block */
+#define PIONGSEUT_REFUSED_UNUSABLE 7         /* 02h, 0B 00 00  a packet drive's page 00h, whose own one cannot be used */
 #define PIONGSEUT_REFUSED_ROOM 8             /* none           the output room is shorter than the bytes to write */
 #define PIONGSEUT_REFUSED_PROTOCOL 9         /* 02h, 05 24 00  PROTOCOL is 2, 7, 12, 13 or 14 */
 #define PIONGSEUT_REFUSED_PENDING 10         /* 08h            an order is pending, and PROTOCOL is not 15 */

@@ -46,6 +46,8 @@ def carries_name(block):
 
 def same_drive(one, other):
     """By the names where both carry one; by model and serial number where neither does; a name and none are two drives."""
-    if carries_name(one) or carries_name(other):
+    if carries_name(one) != carries_name(other):
+        return False
+    if carries_name(one):
         return name(one) == name(other)
     return (model(one), serial(one)) == (model(other), serial(other))

@@ -1,6 +1,6 @@
 /*
  * One record, lent to a long seeded run of submissions and completions, with refusals, PROTOCOL 15, drive errors, reset orders
- * and host resets between. A small model, written from document 01, says after every step what must have come back and what every
+ * and host resets between. A small model, written from docs/RULES.md, says after every step what must have come back and what every
  * lent byte must be.
  */
 #include "piongseut.h"
@@ -94,7 +94,7 @@ static uint16_t wide(const uint8_t *command, int at, int extend)
     return (uint16_t)((extend ? command[at] << 8 : 0) | command[at + 1]);
 }
 
-/* The order of a 16-byte command, as document 01 reads its bytes. */
+/* The order of a 16-byte command, as RULES 8 reads its bytes. */
 static piongseut_order order_of(const uint8_t *command, uint32_t declared)
 {
     piongseut_order order;

@@ -1,6 +1,6 @@
 /*
- * Uses every function of piongseut.h as a C program would, and checks the answers against the values of document 01 and, for the
- * intake, request L6 of document 02. The same file is compiled as C++, to see that both can read the header.
+ * Uses every function of piongseut.h as a C program would, and checks the answers against the values of docs/RULES.md.
+ * The same file is compiled as C++, to see that both can read the header.
  */
 #include "piongseut.h"
 
@@ -267,7 +267,7 @@ static void register_places(void)
     piongseut_complete_answer ended = piongseut_complete(&record, said, sizeof said, sense, sizeof sense);
     check(answer.number == PIONGSEUT_ACCEPTED && ended.number == PIONGSEUT_ACCEPTED &&
               memcmp(sense + REGISTERS_AT, wanted, sizeof wanted) == 0,
-          "the registers stand in document 01's order");
+          "the registers stand in the rule book's order");
 }
 
 static void longest_order(void)
@@ -342,7 +342,7 @@ static void pages83(void)
     check(written.number == PIONGSEUT_REFUSED_ROOM && written.count == 0, "room 75 for 76 bytes, 8");
 }
 
-/* The three blocks of document 01's sample; then no blocks, all that a roll has, and one more. */
+/* The three blocks of the rule book's sample; then no blocks, all that a roll has, and one more. */
 static void rolls(void)
 {
     static uint8_t blocks[(PIONGSEUT_ROLL_BLOCKS + 1) * PIONGSEUT_BLOCK_SIZE];

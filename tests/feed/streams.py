@@ -1,9 +1,11 @@
 """Streams for the program feed, divided in many ways, with what it has to print of each: python3 streams.py BLOCKS FOLDER writes
-NAME.in and NAME.out for each of them. The rules are request L6's: the first 512 bytes of a stream are the block, however it is
-divided; and document 01's page 83h."""
+NAME.in and NAME.out for each of them. The rules are those of docs/RULES.md, section 12, and for the name section 5."""
 import pathlib
 import random
 import sys
+
+sys.path.insert(0, str(pathlib.Path(__file__).resolve().parents[2] / "tools"))
+import identify
 
 
 def run(data):
@@ -17,14 +19,10 @@ def shown(byte):
 
 
 def name_line(block):
-    words = block[216:224]
-    if any(words):
-        return "name " + "".join(words[i + 1 : i + 2].hex() + words[i : i + 1].hex() for i in range(0, 8, 2))
-    def text(first, last):
-        field = block[first:last]
-        turned = b"".join(field[i + 1 : i + 2] + field[i : i + 1] for i in range(0, len(field), 2))
-        return "".join(map(shown, turned.replace(b"\0", b" ")))
-    return f"text [{text(54, 94)}] [{text(20, 40)}]"
+    if identify.carries_name(block):
+        return "name " + identify.name(block).hex()
+    model, serial = ("".join(map(shown, text)) for text in (identify.model(block), identify.serial(block)))
+    return f"text [{model}] [{serial}]"
 
 
 def expected(runs):

@@ -1,7 +1,7 @@
 #!/usr/bin/env python3
 """What the health logger must print for the register images on standard input.
 
-Written from document 01 and the ATA text of SMART RETURN STATUS, and from nothing of the board's own: the command has EXTEND
+Written from docs/RULES.md and the ATA text of SMART RETURN STATUS, and from nothing of the board's own: the command has EXTEND
 zero, so the upper register bytes come back as zero and only the lower ones decide; status bit 0 (ERR) or 5 (DF) is an error.
 """
 import sys

@@ -1,5 +1,5 @@
 #!/usr/bin/env python3
-"""inputs.py DIR: writes the inputs of the suite into DIR, one file NAME.in each, from the words of document 01: a block is
+"""inputs.py DIR: writes the inputs of the suite into DIR, one file NAME.in each, from sections 5 and 11 of docs/RULES.md: a block is
 512 bytes, word w is its bytes 2w (bits 7:0) and 2w+1 (bits 15:8), a text has two letters a word, the first in bits 15:8;
 serial words 10-19, model words 27-46, name words 108-111. Nothing of the board is used."""
 import glob
@@ -35,7 +35,7 @@ def drive(model, serial, name=0, fill=b" ", firmware="1.0"):
 
 
 def sample():
-    """The three blocks of document 01."""
+    """The three blocks of the rule book's sample."""
     blocks = [bytearray(BLOCK) for _ in range(3)]
     for block in blocks[:2]:
         block[216:224] = bytes.fromhex("005000C534127856")

@@ -204,7 +204,7 @@ rowAt bytes room i = getD (roll bytes room .room) i 0
 pub record Rolled (bytes room : List ℕ) : Type 0 where
   -- every block of 512 bytes is counted;
   pub blocks : roll bytes room .counted .blocks ≡ length bytes / 512
-  -- two blocks share a row exactly when they are the same drive;
+  -- two blocks have one row if and only if they are the same drive;
   pub share-a-row : (i j : ℕ) → i < length bytes / 512 → j < length bytes / 512 → (rowAt bytes room i ≡ rowAt bytes room j) ↔ (sameDrive (blockAt bytes i) (blockAt bytes j) ≡ true)
   -- a drive's first block has the row behind those of the drives before it, so that the first of all has row 1;
   pub by-first-appearance : (i : ℕ) → i < length bytes / 512 → ((k : ℕ) → k < i → sameDrive (blockAt bytes k) (blockAt bytes i) ≡ false) → rowAt bytes room i ≡ suc (roll (take (512 * i) bytes) room .counted .drives)
@@ -246,7 +246,7 @@ answerTo store before run = taken (runs (begin store) before .intake) (runs (beg
 pub record Streamed (store : List ℕ) : Type 0 where
   -- however the stream is divided, the intake, the store and the bytes used in all are those of a single run,
   pub however-divided : (rs : List (List ℕ)) → runs (begin store) rs ≡ step (begin store) (stream rs)
-  -- which are the stream's first 512 bytes in their order, or all of a shorter one, and their sum modulo 256;
+  -- which are the front of the stream, up to its byte 512, and the front's sum modulo 256;
   pub single-run : (s : List ℕ) → step (begin store) s ≡ record { intake = Intake.intake (length (take 512 s)) (sumOf (take 512 s) % 256); store = written store 0 (take 512 s); used = length (take 512 s) }
   -- no run is refused, and complete is reported from exactly the run that brings byte 512;
   pub never-refused : (before : List (List ℕ)) (run : List ℕ) → answerTo store before run .number ≡ 0

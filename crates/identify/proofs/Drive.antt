@@ -78,11 +78,11 @@ cases false true n m s e = absurd (false≢true e)
 cases false false n m s e = let both = and-eq-true-iff m s .0 e in inr (refl, refl, both .0, both .1)
 
 module _ (a b : List ℕ) where
-  -- "both carry a nonzero world wide name and it is the same one"
+  -- One name, which both carry.
   abbrev pub OneName : Type 0
   OneName = (carriesName a ≡ true) × (carriesName b ≡ true) × (name a ≡ name b)
 
-  -- "both carry none and have equal model and serial fields with zero bytes read as spaces"
+  -- No name, and the same texts once their zero bytes are spaces.
   abbrev pub OneText : Type 0
   OneText = (carriesName a ≡ false) × (carriesName b ≡ false) × (spaced (model a) ≡ spaced (model b)) × (spaced (serial a) ≡ spaced (serial b))
 

@@ -1,7 +1,7 @@
 //! Faults that are planted on purpose, one at a time, to see that the
 //! comparison finds them. Without the feature `faults` there is none.
 
-/// The wrong boards and the easy slips that document 01 names, and some more.
+/// The wrong boards and the easy slips that the papers name, and some more.
 pub const NAMES: &[&str] = &[
     "inquiry-refuses-all",
     "submit-refuses-all",

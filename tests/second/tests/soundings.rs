@@ -1,4 +1,4 @@
-//! C1 to C13 of document 01 and the other soundings listed there.
+//! C1 to C13 and the other soundings (RULES 13).
 
 mod common;
 

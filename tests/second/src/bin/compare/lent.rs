@@ -41,7 +41,7 @@ pub fn zero_block() -> Vec<u8> {
     vec![0; 512]
 }
 
-/// Block 0 of document 01's roll: zero but for its name.
+/// Block 0 of the sample (RULES 11): zero but for its name.
 pub fn block_0() -> Vec<u8> {
     let mut block = zero_block();
     block[216..224].copy_from_slice(&[0x00, 0x50, 0x00, 0xC5, 0x34, 0x12, 0x78, 0x56]);

@@ -90,7 +90,7 @@ pub fn one_byte(board: &mut Board) {
     }
 }
 
-/// The sample of document 01.
+/// The sample of RULES 11.
 pub fn sample() -> Vec<u8> {
     let (first, mut second) = (lent::block_0(), lent::block_0());
     second[20] = 0x41;

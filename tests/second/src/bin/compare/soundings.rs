@@ -1,4 +1,4 @@
-//! The soundings of document 01, and the blocks of real drives.
+//! The soundings (RULES 13), and the blocks of real drives.
 
 use crate::board::Board;
 use crate::call::{Call, EMPTY};
