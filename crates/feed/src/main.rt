@@ -3,10 +3,47 @@
 // how many bytes it used in all, and the name that the block's page 83h tells.
 use input::Wanted;
 use intake::Intake;
-use output::say;
-use output::say_text;
+use libc::STDERR_FILENO;
+use libc::STDOUT_FILENO;
 ghost use Prim.Native.Nat.{_+_, _≤_};
 ghost use lib.ListN.{length};
+
+// Every function that says something answers whether all of it was written.
+fn say(text: &[u8]) -> bool {
+    io::write_all(STDOUT_FILENO, text)
+}
+
+// A line on standard error.
+fn complain(what: &[u8]) {
+    io::write_all(STDERR_FILENO, b"feed: ");
+    io::write_all(STDERR_FILENO, what);
+    io::write_all(STDERR_FILENO, b"\n");
+}
+
+fn say_shown(byte: u8) -> bool {
+    let shown = output::show(byte);
+    let bytes = shown.bytes;
+    let count = shown.count;
+    say(&bytes[..count])
+}
+
+// A text that came from a drive, each byte as it is shown: what a drive calls itself gives no commands to a terminal.
+fn say_text(text: &[u8]) -> bool {
+    let mut i = 0;
+    while i < text.len() {
+        if !say_shown(text[i]) {
+            return false;
+        }
+        i += 1;
+    }
+    true
+}
+
+fn complain_of_run(number: usize) {
+    io::write_all(STDERR_FILENO, b"feed: the input ends inside run ");
+    io::print_decimal(STDERR_FILENO, number as u64);
+    io::write_all(STDERR_FILENO, b"\n");
+}
 
 // What the runs came to: the intake; the number of the run in which it was complete, 0 in none, and after how many of its bytes; and
 // the number of the run inside which the input ended, 0 if it ended behind one.
@@ -85,13 +122,12 @@ fn feed(input: &[u8], store: &mut [u8]) -> Fed {
     fed
 }
 
-// Every function that says something answers whether all of it was written.
 fn say_number(number: usize) -> bool {
-    output::say_number(number as u64)
+    io::print_decimal(STDOUT_FILENO, number as u64)
 }
 
 fn say_pair(high: u8, low: u8) -> bool {
-    output::say_hex(rules::pair(high, low) as u64, 4)
+    io::print_hex(STDOUT_FILENO, rules::pair(high, low) as u64, 4)
 }
 
 // The completion point.
@@ -148,13 +184,13 @@ fn say_name(intake: Intake, store: &[u8]) -> bool {
 // The runs of one stream and what they came to, or a complaint of input that is not such runs.
 fn report(input: &[u8]) -> bool {
     if input.len() > 65536 {
-        output::complain(b"feed", b"more than 65536 bytes");
+        complain(b"more than 65536 bytes");
         return true;
     }
     let mut store = [0u8; 512];
     let fed = feed(input, &mut store);
     if fed.broken != 0 {
-        output::complain_of(b"feed", b"the input ends inside run ", fed.broken as u64);
+        complain_of_run(fed.broken);
         return true;
     }
     let held = fed.intake;
@@ -162,13 +198,14 @@ fn report(input: &[u8]) -> bool {
 }
 
 fn say_help() -> bool {
-    input::say_help(
-        b"feed",
-        b"Takes runs of an IDENTIFY block off the wire, and prints in which run the block was complete and after how many\n\
+    say(
+        b"usage: feed [FILE ..] | --help | --version\n\
+        Takes runs of an IDENTIFY block off the wire, and prints in which run the block was complete and after how many\n\
         bytes of it, how many bytes were used in all, and the name that the block's page 83h tells. A byte of a text that is not\n\
-        printable is shown as \\x and two hexadecimal digits, a backslash as two.\n",
-        b"runs, in all up to 65536 bytes: each has two length bytes, high byte first, and that many bytes.\n",
-        b"crates/feed/stdin",
+        printable is shown as \\x and two hexadecimal digits, a backslash as two.\n\
+        Input: runs, in all up to 65536 bytes: each has two length bytes, high byte first, and that many bytes.\n\
+        It is the files, one behind the other, or standard input where no file is named.\n\
+        Example: ./run feed crates/feed/stdin\n",
     )
 }
 
@@ -181,10 +218,10 @@ fn main() {
     let written = match wanted {
         Wanted::Read => report(&buffer[..n]),
         Wanted::Help => say_help(),
-        Wanted::Version => input::say_version(b"feed"),
+        Wanted::Version => say(b"feed (piongseut) 4.0.0\n"),
         Wanted::Complained => true,
     };
     if !written {
-        output::complain(b"feed", b"standard output could not be written");
+        complain(b"standard output could not be written");
     }
 }

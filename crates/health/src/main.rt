@@ -3,13 +3,26 @@
 // drive's place and what it said. This is the health page that version three asked for as a write: here the command is
 // non-data, and the drive waits for nothing. What each answer stands for is in specs/Said, what is asked and how in specs/Asked.
 use input::Wanted;
-use output::say;
+use libc::STDERR_FILENO;
+use libc::STDOUT_FILENO;
 use passthrough::Pending;
 ghost use Prim.Native.Nat.{_+_, _*_, _≤_};
 ghost use mathlib.Core.Path.{_≡_};
 ghost use lib.ListN.{length};
 ghost use Rattle.health.specs.Said.{valuesOf, hasRegisters, verdictOf, heardIn};
 ghost use Rattle.health.specs.Asked.{returnStatus, ended, asked, given};
+
+// Every function that says something answers whether all of it was written.
+fn say(text: &[u8]) -> bool {
+    io::write_all(STDOUT_FILENO, text)
+}
+
+// A line on standard error.
+fn complain(what: &[u8]) {
+    io::write_all(STDERR_FILENO, b"health: ");
+    io::write_all(STDERR_FILENO, what);
+    io::write_all(STDERR_FILENO, b"\n");
+}
 
 // What a drive said of its health. Error has the drive's error register, Refused the number of the board's refusal.
 enum Said {
@@ -114,22 +127,23 @@ fn ask(pending: Pending, registers: &[u8]) -> Asked
     end(next, registers)
 }
 
-// Every function that says something answers whether all of it was written.
 fn say_verdict(said: Said) -> bool {
     match said {
         Said::Healthy => say(b" healthy\n"),
         Said::Failing => say(b" failing\n"),
         Said::Unknown => say(b" unknown\n"),
-        Said::Error(error) => { say(b" error ") && output::say_hex(error as u64, 2) && say(b"\n") }
+        Said::Error(error) => {
+            say(b" error ") && io::print_hex(STDOUT_FILENO, error as u64, 2) && say(b"\n")
+        }
         Said::Refused(number) => {
-            say(b" refused ") && output::say_number(number as u64) && say(b"\n")
+            say(b" refused ") && io::print_decimal(STDOUT_FILENO, number as u64) && say(b"\n")
         }
     }
 }
 
 // The line of the drive at place i; false where it could not be written.
 fn line(i: usize, said: Said) -> bool {
-    output::say_number(i as u64) && say_verdict(said)
+    io::print_decimal(STDOUT_FILENO, i as u64) && say_verdict(said)
 }
 
 // The register image at place i.
@@ -161,26 +175,24 @@ fn drives(images: &[u8]) -> bool {
 // A line for each image, or a complaint of input that is not such images.
 fn list(images: &[u8]) -> bool {
     if images.len() > 45056 {
-        output::complain(b"health", b"more than 4096 drives");
+        complain(b"more than 4096 drives");
         return true;
     }
     if images.len() % 11 != 0 {
-        output::complain(
-            b"health",
-            b"the input is no whole number of register images of 11 bytes",
-        );
+        complain(b"the input is no whole number of register images of 11 bytes");
         return true;
     }
     drives(images)
 }
 
 fn say_help() -> bool {
-    input::say_help(
-        b"health",
-        b"Prints for each drive its place from 0 and what it said to SMART RETURN STATUS: healthy, failing, unknown, error and\n\
-        its error register, or refused and the board's number.\n",
-        b"up to 4096 register images of 11 bytes each: error; count, LBA low, mid and high, high byte first; device; status.\n",
-        b"crates/health/stdin",
+    say(
+        b"usage: health [FILE ..] | --help | --version\n\
+        Prints for each drive its place from 0 and what it said to SMART RETURN STATUS: healthy, failing, unknown, error and\n\
+        its error register, or refused and the board's number.\n\
+        Input: up to 4096 register images of 11 bytes each: error; count, LBA low, mid and high, high byte first; device; status.\n\
+        It is the files, one behind the other, or standard input where no file is named.\n\
+        Example: ./run health crates/health/stdin\n",
     )
 }
 
@@ -193,10 +205,10 @@ fn main() {
     let written = match wanted {
         Wanted::Read => list(&buffer[..n]),
         Wanted::Help => say_help(),
-        Wanted::Version => input::say_version(b"health"),
+        Wanted::Version => say(b"health (piongseut) 4.0.0\n"),
         Wanted::Complained => true,
     };
     if !written {
-        output::complain(b"health", b"standard output could not be written");
+        complain(b"standard output could not be written");
     }
 }

@@ -2,7 +2,6 @@
 // file behind the other, or of standard input where there is no word.
 use libc::STDERR_FILENO;
 use libc::STDIN_FILENO;
-use libc::STDOUT_FILENO;
 ghost use Prim.Native.Nat.{_≤_};
 ghost use mathlib.Core.Path.{_≡_};
 ghost use lib.ListN.{length, take};
@@ -66,18 +65,18 @@ fn first_option(words: usize) -> usize {
     i
 }
 
-// How a program is called.
-fn write_usage(file: i32, program: &[u8]) -> bool {
-    io::write_all(file, b"usage: ")
-        && io::write_all(file, program)
-        && io::write_all(file, b" [FILE ..] | --help | --version\n")
+// The start of a complaint: the program's name.
+fn complain_as(program: &[u8]) {
+    io::write_all(STDERR_FILENO, program);
+    io::write_all(STDERR_FILENO, b": ");
 }
 
 fn complain_of_option(program: &[u8], word: &[u8]) {
-    output::complain_as(program);
+    complain_as(program);
     io::write_all(STDERR_FILENO, word);
-    io::write_all(STDERR_FILENO, b" is no option\n");
-    write_usage(STDERR_FILENO, program);
+    io::write_all(STDERR_FILENO, b" is no option\nusage: ");
+    io::write_all(STDERR_FILENO, program);
+    io::write_all(STDERR_FILENO, b" [FILE ..] | --help | --version\n");
 }
 
 // What is wanted by word i, which names no file.
@@ -85,7 +84,10 @@ fn option(program: &[u8], i: usize) -> Wanted {
     let mut word = io::buffer();
     let n = os::arg(i, &mut word);
     if os::errno() != 0 {
-        output::complain_of(program, b"more than 4096 bytes in word ", i as u64);
+        complain_as(program);
+        io::write_all(STDERR_FILENO, b"more than 4096 bytes in word ");
+        io::print_decimal(STDERR_FILENO, i as u64);
+        io::write_all(STDERR_FILENO, b"\n");
         return Wanted::Complained;
     }
     let wanted = word_wants(&word[..n]);
@@ -130,7 +132,7 @@ fn fill(file: i32, buffer: &mut [u8], start: usize) -> Filled
 
 // Why a file could not be opened or read. A write that succeeds leaves the reason of the failure as it is.
 fn complain_of_file(program: &[u8], path: &[u8]) {
-    output::complain_as(program);
+    complain_as(program);
     os::fail(path);
 }
 
@@ -186,7 +188,8 @@ fn read_standard(program: &[u8], buffer: &mut [u8]) -> Got
 {
     let filled = fill(STDIN_FILENO, buffer, 0);
     if filled.failed {
-        output::complain(program, b"standard input could not be read");
+        complain_as(program);
+        io::write_all(STDERR_FILENO, b"standard input could not be read\n");
         return Got {
             wanted: Wanted::Complained,
             count: 0,
@@ -215,25 +218,4 @@ pub fn take(program: &[u8], buffer: &mut [u8]) -> Got
         };
     }
     read_files(program, words, buffer)
-}
-
-// The answer to --help: what a program does, what its input is, and an input to try it with.
-pub fn say_help(program: &[u8], does: &[u8], takes: &[u8], example: &[u8]) -> bool {
-    write_usage(STDOUT_FILENO, program)
-        && output::say(does)
-        && output::say(b"Input: ")
-        && output::say(takes)
-        && output::say(
-            b"It is the files, one behind the other, or standard input where no file is named.\n",
-        )
-        && output::say(b"Example: ./run ")
-        && output::say(program)
-        && output::say(b" ")
-        && output::say(example)
-        && output::say(b"\n")
-}
-
-// The answer to --version.
-pub fn say_version(program: &[u8]) -> bool {
-    output::say(program) && output::say(b" (piongseut) 4.0.0\n")
 }

@@ -4,9 +4,22 @@
 // refusal number, the status, the count, and the served bytes in hexadecimal. The stored output was checked with sg_inq and
 // sg_vpd of sg3-utils 1.46: the names, texts and words that they decode from it are those of the blocks.
 use input::Wanted;
-use output::say;
+use libc::STDERR_FILENO;
+use libc::STDOUT_FILENO;
 ghost use Prim.Native.Nat.{_+_, _*_, _≤_};
 ghost use lib.ListN.{length};
+
+// Every function that says something answers whether all of it was written.
+fn say(text: &[u8]) -> bool {
+    io::write_all(STDOUT_FILENO, text)
+}
+
+// A line on standard error.
+fn complain(what: &[u8]) {
+    io::write_all(STDERR_FILENO, b"inquiries: ");
+    io::write_all(STDERR_FILENO, what);
+    io::write_all(STDERR_FILENO, b"\n");
+}
 
 // The signature of a SATA drive, as it comes in the first frame after a reset: frame type 34h, status 50h, error 01h, LBA
 // low 01h, then LBA mid and high, and count 01h. A disk has 00h and 00h for mid and high, a packet drive 14h and EBh.
@@ -22,13 +35,12 @@ fn signature(mid: u8, high: u8) -> [u8; 20] {
     frame
 }
 
-// Every function that says something answers whether all of it was written.
 fn say_number(number: u64) -> bool {
-    say(b" ") && output::say_number(number)
+    say(b" ") && io::print_decimal(STDOUT_FILENO, number)
 }
 
 fn say_byte(byte: u8) -> bool {
-    output::say_hex(byte as u64, 2)
+    io::print_hex(STDOUT_FILENO, byte as u64, 2)
 }
 
 fn say_bytes(bytes: &[u8]) -> bool {
@@ -76,7 +88,7 @@ fn ask(command: &[u8], block: &[u8], signature: &[u8], reply: &[u8]) -> bool {
 
 // Asks for a page of the disk whose block stands at place i.
 fn ask_disk(i: usize, block: &[u8], command: &[u8]) -> bool {
-    output::say_number(i as u64) && ask(command, block, &signature(0x00, 0x00), b"")
+    io::print_decimal(STDOUT_FILENO, i as u64) && ask(command, block, &signature(0x00, 0x00), b"")
 }
 
 // Asks for every page, with an allocation length of 572 that cuts none, and last for page 83h cut to five bytes.
@@ -124,26 +136,24 @@ fn packet() -> bool {
 // The answers for all blocks and for the packet drive, or a complaint of input that is not such blocks.
 fn list(blocks: &[u8]) -> bool {
     if blocks.len() > 32768 {
-        output::complain(b"inquiries", b"more than 64 blocks");
+        complain(b"more than 64 blocks");
         return true;
     }
     if blocks.len() % 512 != 0 {
-        output::complain(
-            b"inquiries",
-            b"the input is no whole number of blocks of 512 bytes",
-        );
+        complain(b"the input is no whole number of blocks of 512 bytes");
         return true;
     }
     disks(blocks) && packet()
 }
 
 fn say_help() -> bool {
-    input::say_help(
-        b"inquiries",
-        b"Prints what the board answers to INQUIRY, for each block and for one packet drive: its place from 0, the page, the\n\
-        refusal number, the status, the count, and the served bytes in hexadecimal.\n",
-        b"up to 64 IDENTIFY blocks of 512 bytes each.\n",
-        b"data/identify/*.bin",
+    say(
+        b"usage: inquiries [FILE ..] | --help | --version\n\
+        Prints what the board answers to INQUIRY, for each block and for one packet drive: its place from 0, the page, the\n\
+        refusal number, the status, the count, and the served bytes in hexadecimal.\n\
+        Input: up to 64 IDENTIFY blocks of 512 bytes each.\n\
+        It is the files, one behind the other, or standard input where no file is named.\n\
+        Example: ./run inquiries data/identify/*.bin\n",
     )
 }
 
@@ -156,10 +166,10 @@ fn main() {
     let written = match wanted {
         Wanted::Read => list(&buffer[..n]),
         Wanted::Help => say_help(),
-        Wanted::Version => input::say_version(b"inquiries"),
+        Wanted::Version => say(b"inquiries (piongseut) 4.0.0\n"),
         Wanted::Complained => true,
     };
     if !written {
-        output::complain(b"inquiries", b"standard output could not be written");
+        complain(b"standard output could not be written");
     }
 }

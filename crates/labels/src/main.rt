@@ -1,19 +1,54 @@
 // Labels: for each IDENTIFY block of 512 bytes that it is given a line with its place, its model and serial number as the
 // board shows them, its world wide name, and its drive's row in the roll, which is the row that `rollcall` prints.
 use input::Wanted;
-use output::say;
-use output::say_number;
+use libc::STDERR_FILENO;
+use libc::STDOUT_FILENO;
 ghost use mathlib.Core.Path.{_≡_};
 ghost use Prim.Native.Nat.{_%_, _≤_};
 ghost use lib.ListN.{length};
 
-// A text, turned and spaced, in brackets. Every function that says something answers whether all of it was written.
+// Every function that says something answers whether all of it was written.
+fn say(text: &[u8]) -> bool {
+    io::write_all(STDOUT_FILENO, text)
+}
+
+fn say_number(number: u64) -> bool {
+    io::print_decimal(STDOUT_FILENO, number)
+}
+
+// A line on standard error.
+fn complain(what: &[u8]) {
+    io::write_all(STDERR_FILENO, b"labels: ");
+    io::write_all(STDERR_FILENO, what);
+    io::write_all(STDERR_FILENO, b"\n");
+}
+
+fn say_shown(byte: u8) -> bool {
+    let shown = output::show(byte);
+    let bytes = shown.bytes;
+    let count = shown.count;
+    say(&bytes[..count])
+}
+
+// A text that came from a drive, each byte as it is shown: what a drive calls itself gives no commands to a terminal.
+fn say_text(text: &[u8]) -> bool {
+    let mut i = 0;
+    while i < text.len() {
+        if !say_shown(text[i]) {
+            return false;
+        }
+        i += 1;
+    }
+    true
+}
+
+// A text, turned and spaced, in brackets.
 fn say_field(text: &[u8]) -> bool
     requires { ⌜ (length (now text) ≤ 40) × (length (now text) % 4 ≡ 0) ⌝ }
 {
     let mut shown = [0u8; 40];
     texts::put_spaced(&mut shown, 0, text);
-    say(b" [") && output::say_text(&shown[..text.len()]) && say(b"]")
+    say(b" [") && say_text(&shown[..text.len()]) && say(b"]")
 }
 
 // The model and the serial number.
@@ -25,7 +60,7 @@ fn say_texts(block: &[u8]) -> bool
 
 // Word w, high byte first, in hexadecimal digits.
 fn say_word(block: &[u8], w: u8) -> bool {
-    output::say_hex(identify::word(block, w) as u64, 4)
+    io::print_hex(STDOUT_FILENO, identify::word(block, w) as u64, 4)
 }
 
 // The world wide name, words 108 to 111.
@@ -71,28 +106,26 @@ fn labels(blocks: &[u8], rows: &[u16; 64]) -> bool
 // A line for each block, or a complaint of input that is not such blocks.
 fn list(blocks: &[u8]) -> bool {
     if blocks.len() > 32768 {
-        output::complain(b"labels", b"more than 64 blocks");
+        complain(b"more than 64 blocks");
         return true;
     }
     let mut rows = [0u16; 64];
     let counted = roll::roll(blocks, &mut rows);
     if counted.number != 0 {
-        output::complain(
-            b"labels",
-            b"the input is no whole number of blocks of 512 bytes",
-        );
+        complain(b"the input is no whole number of blocks of 512 bytes");
         return true;
     }
     labels(blocks, &rows)
 }
 
 fn say_help() -> bool {
-    input::say_help(
-        b"labels",
-        b"Prints for each block its place from 0, its model and serial number, its world wide name, and its drive's row. A byte\n\
-        of a text that is not printable is shown as \\x and two hexadecimal digits, a backslash as two.\n",
-        b"up to 64 IDENTIFY blocks of 512 bytes each.\n",
-        b"data/identify/*.bin",
+    say(
+        b"usage: labels [FILE ..] | --help | --version\n\
+        Prints for each block its place from 0, its model and serial number, its world wide name, and its drive's row. A byte\n\
+        of a text that is not printable is shown as \\x and two hexadecimal digits, a backslash as two.\n\
+        Input: up to 64 IDENTIFY blocks of 512 bytes each.\n\
+        It is the files, one behind the other, or standard input where no file is named.\n\
+        Example: ./run labels data/identify/*.bin\n",
     )
 }
 
@@ -105,10 +138,10 @@ fn main() {
     let written = match wanted {
         Wanted::Read => list(&buffer[..n]),
         Wanted::Help => say_help(),
-        Wanted::Version => input::say_version(b"labels"),
+        Wanted::Version => say(b"labels (piongseut) 4.0.0\n"),
         Wanted::Complained => true,
     };
     if !written {
-        output::complain(b"labels", b"standard output could not be written");
+        complain(b"standard output could not be written");
     }
 }

@@ -2,13 +2,28 @@
 // many drives there are; then comes a line for each block with its place from 0, its row, and what tells its drive: `wwn`
 // where the block carries a world wide name, `text` where model and serial number do. Input that is no roll is `refused 1`.
 use input::Wanted;
-use output::say;
-use output::say_number;
+use libc::STDERR_FILENO;
+use libc::STDOUT_FILENO;
 ghost use Prim.Native.Nat.{_+_, _*_, _≤_};
 ghost use mathlib.Core.Path.{_≡_};
 ghost use lib.ListN.{length};
 
 // Every function that says something answers whether all of it was written.
+fn say(text: &[u8]) -> bool {
+    io::write_all(STDOUT_FILENO, text)
+}
+
+fn say_number(number: u64) -> bool {
+    io::print_decimal(STDOUT_FILENO, number)
+}
+
+// A line on standard error.
+fn complain(what: &[u8]) {
+    io::write_all(STDERR_FILENO, b"rollcall: ");
+    io::write_all(STDERR_FILENO, what);
+    io::write_all(STDERR_FILENO, b"\n");
+}
+
 fn say_refusal(number: u8) -> bool {
     say(b"refused ") && say_number(number as u64) && say(b"\n")
 }
@@ -64,12 +79,13 @@ fn say_roll(blocks: &[u8]) -> bool {
 }
 
 fn say_help() -> bool {
-    input::say_help(
-        b"rollcall",
-        b"Prints the roll: how many blocks and drives there are; then for each block its place from 0, its drive's row, and\n\
-        what tells the drive, wwn or text. Input that is no roll is: refused 1\n",
-        b"up to 64 IDENTIFY blocks of 512 bytes each.\n",
-        b"data/identify/*.bin",
+    say(
+        b"usage: rollcall [FILE ..] | --help | --version\n\
+        Prints the roll: how many blocks and drives there are; then for each block its place from 0, its drive's row, and\n\
+        what tells the drive, wwn or text. Input that is no roll is: refused 1\n\
+        Input: up to 64 IDENTIFY blocks of 512 bytes each.\n\
+        It is the files, one behind the other, or standard input where no file is named.\n\
+        Example: ./run rollcall data/identify/*.bin\n",
     )
 }
 
@@ -82,10 +98,10 @@ fn main() {
     let written = match wanted {
         Wanted::Read => say_roll(&buffer[..n]),
         Wanted::Help => say_help(),
-        Wanted::Version => input::say_version(b"rollcall"),
+        Wanted::Version => say(b"rollcall (piongseut) 4.0.0\n"),
         Wanted::Complained => true,
     };
     if !written {
-        output::complain(b"rollcall", b"standard output could not be written");
+        complain(b"standard output could not be written");
     }
 }

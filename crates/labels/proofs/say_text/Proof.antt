@@ -2,8 +2,8 @@
 use Prim.Native.Nat.{_≤_, _-_}
 use lib.ListN.{length}
 use borrow.Author.Needs.{needs}
-use Rattle.output.proofs.say_text.Statement.{statement}
-use Rattle.output.proofs.say_text.Tie as tie
+use Rattle.labels.proofs.say_text.Statement.{statement}
+use Rattle.labels.proofs.say_text.Tie as tie
 
 abbrev Inv-loop : tie.InvT-loop
 Inv-loop text i₀ i = i ≤ length text
@@ -14,11 +14,11 @@ abbrev μ-loop : tie.MeasureT-loop
 loop-holds : tie.Need-loop-holds Inv-loop μ-loop
 loop-holds c = search needs
 
-shared-slice-read-say-byte : tie.Need-shared-slice-read-say-byte Inv-loop μ-loop
-shared-slice-read-say-byte c = search needs
+shared-slice-read-say-shown : tie.Need-shared-slice-read-say-shown Inv-loop μ-loop
+shared-slice-read-say-shown c = search needs
 
-say-byte-requires : tie.Need-say-byte-requires Inv-loop μ-loop
-say-byte-requires c κs = search needs
+say-shown-requires : tie.Need-say-shown-requires Inv-loop μ-loop
+say-shown-requires c κs = search needs
 
 returns : tie.Need-returns Inv-loop μ-loop
 returns c = search needs
@@ -42,8 +42,8 @@ say-text-spec =
     Inv-loop
     μ-loop
     loop-holds
-    shared-slice-read-say-byte
-    say-byte-requires
+    shared-slice-read-say-shown
+    say-shown-requires
     returns
     add-i
     loop-less
