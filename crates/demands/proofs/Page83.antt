@@ -16,7 +16,8 @@ use Rattle.identify.specs.Block.{words, serial, model, name}
 use Rattle.texts.specs.Text.{turned, space, spaced}
 use Rattle.identify.specs.Drive.{someBit, carriesName, equal, sameDrive}
 use Rattle.identify.proofs.Block.{length-name}
-use Rattle.texts.proofs.Text.{turned-twice, turned-injective, turned-map, length-turned}
+use Rattle.texts.proofs.Text.{length-turned}
+use Rattle.laws.proofs.Laws.{turned-twice, turned-injective, turned-spaced}
 use Rattle.identify.proofs.Drive.{equal-same, OneName, OneText, same-drive-means, same-drive-when}
 use Rattle.page83.specs.Page83 as Page83
 use Rattle.page83.specs.Page83.{page83, namePage, textPage, checks, refusalOf, Outcome, write}
@@ -278,7 +279,7 @@ accepted-is-written page h =
 -- Texts are equal with their zero bytes as spaces, turned or not.
 one-text : (s t : List ℕ) → (spaced (turned s) ≡ spaced (turned t)) ↔ (spaced s ≡ spaced t)
 one-text s t =
-    (λ e. turned-injective (turned-map space s ∙ e ∙ sym (turned-map space t)), λ e. sym (turned-map space s) ∙ ap turned e ∙ turned-map space t)
+    (λ e. turned-injective (turned-spaced s ∙ e ∙ sym (turned-spaced t)), λ e. sym (turned-spaced s) ∙ ap turned e ∙ turned-spaced t)
 
 -- Where the first of two texts has n bytes, they can be told apart again.
 apart : (n : ℕ) (s t u v : List ℕ) → length s ≡ n → length u ≡ n → s ++ t ≡ u ++ v → (s ≡ u) × (t ≡ v)

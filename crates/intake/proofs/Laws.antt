@@ -54,20 +54,6 @@ all-summed {bytes} {sum} {i} s h =
     let d : (sum + 0) % 256 ≡ sumOf bytes % 256 = rw (drop-of-length-le bytes {i = i} h) at (s .left) in
     omega (arith, d, s .small)
 
--- Past its length, how many bytes are taken of a list does not matter.
-pub take-least : (n : ℕ) (l : List ℕ) → take (min (length l) n) l ≡ take n l
-take-least zero [] = refl
-take-least zero (x ∷ l) =
-    let e : min (length (x ∷ l)) 0 ≡ 0 = omega arith in
-    ap (λ (n : ℕ). take n (x ∷ l)) e
-take-least (suc n) [] =
-    let e : min 0 (suc n) ≡ 0 = omega arith in
-    ap (λ (k : ℕ). take k []) e
-take-least (suc n) (x ∷ l) = rw (min-suc (length l) n) (ap (λ (r : List ℕ). x ∷ r) (take-least n l))
-  where
-    min-suc : (a b : ℕ) → min (suc a) (suc b) ≡ suc (min a b)
-    min-suc a b = omega arith
-
 -- What is taken of two runs in a row: of the first, and of the second what the first leaves to take.
 pub take-join : (n : ℕ) (a b : List ℕ) → take n (a ++ b) ≡ take n a ++ take (n - length (take n a)) b
 take-join zero [] b = refl

@@ -11,17 +11,6 @@ use Rattle.room.proofs.Laws.{four}
 use Rattle.texts.specs.Text.{turned, space, spaced}
 use Rattle.texts.specs.Helpers.{shown}
 
--- Turned twice is as it was.
-pub turned-twice : (s : List ℕ) → turned (turned s) ≡ s
-unfolding turned
-turned-twice [] = refl
-turned-twice (a ∷ []) = refl
-turned-twice (a ∷ b ∷ s) = ap (λ (t : List ℕ). a ∷ b ∷ t) (turned-twice s)
-
--- So texts that are equal turned are equal.
-pub turned-injective : {s t : List ℕ} → turned s ≡ turned t → s ≡ t
-turned-injective {s} {t} e = sym (turned-twice s) ∙ ap turned e ∙ turned-twice t
-
 -- Turning keeps the length, and so does making zeros spaces.
 pub length-turned : (s : List ℕ) → length (turned s) ≡ length s
 unfolding turned
@@ -31,33 +20,6 @@ length-turned (a ∷ b ∷ s) = ap (λ (n : ℕ). suc (suc n)) (length-turned s)
 
 pub length-spaced : (s : List ℕ) → length (spaced s) ≡ length s
 length-spaced s = length-map s space
-
-space-twice : (b : ℕ) → space (space b) ≡ space b
-space-twice zero = refl
-space-twice (suc b) = rw (eqb·suc-zero b, eqb·suc-zero b)
-
--- Spaces made twice are as made once.
-pub spaced-twice : (s : List ℕ) → spaced (spaced s) ≡ spaced s
-spaced-twice [] = refl
-spaced-twice (b ∷ s) = rw (space-twice b, spaced-twice s)
-
--- Turning commutes with what is done to each byte alone, and so with making zeros spaces.
-pub turned-map : (f : ℕ → ℕ) (s : List ℕ) → turned (map f s) ≡ map f (turned s)
-unfolding turned
-turned-map f [] = refl
-turned-map f (a ∷ []) = refl
-turned-map f (a ∷ b ∷ s) = ap (λ (t : List ℕ). f b ∷ f a ∷ t) (turned-map f s)
-
-double : (k : ℕ) → 2 * suc k ≡ suc (suc (2 * k))
-double k = omega arith
-
--- The front of a turned text, cut after a whole number of words, is the front turned.
-pub take-turned : (k : ℕ) (s : List ℕ) → take (2 * k) (turned s) ≡ turned (take (2 * k) s)
-unfolding turned
-take-turned zero s = refl
-take-turned (suc k) [] = rw (double k)
-take-turned (suc k) (a ∷ []) = rw (double k)
-take-turned (suc k) (a ∷ b ∷ s) = rw (double k) (ap (λ (t : List ℕ). b ∷ a ∷ t) (take-turned k s))
 
 -- The flag of the private functions: not set, the text stands as it is.
 pub shown-as-it-is : (s : List ℕ) → map (shown false) s ≡ s

@@ -6,7 +6,8 @@ use native.Mathlib.Omega.{arith}
 use lib.ListN.{length, take}
 use lib.Seq.{length-take-le}
 use Rattle.intake.specs.Intake.{taken}
-use Rattle.intake.proofs.Laws.{right, take-least}
+use Rattle.intake.proofs.Laws.{right}
+use Rattle.laws.proofs.Laws.{cut-to-the-size}
 use borrow.Author.Needs.{needs}
 use Rattle.intake.proofs.take.Statement.{statement}
 use Rattle.intake.proofs.take.Tie as tie
@@ -61,7 +62,7 @@ returns-2 c =
     let run = a .run .now in
     let used = c .before .before .before .before .before .before .before .lesser .result in
     let least = c .before .before .before .before .before .before .before .lesser .ensures in
-    let part : take used run ≡ take (512 - have) run = rw least (take-least (512 - have) run) in
+    let part : take used run ≡ take (512 - have) run = rw least (cut-to-the-size (512 - have) run) in
     let count : length (take used run) ≡ used = length-take-le used run (omega (arith, least)) in
     rw (sym (c .before .before .before .before .before .before .before .before .before .before .wrong .ensures) ∙ c .before .before .before .before .before .before .before .before .before .if1 .left, ← part, count, c .flag .ensures, c .before .before .before .put .ensures .leaves, c .before .before .before .before .before .carried .ensures)
 

@@ -6,7 +6,7 @@ use lib.Seq.{length-take-le}
 use Rattle.room.proofs.Laws.{beside}
 use Rattle.identify.proofs.Block.{length-model}
 use Rattle.texts.specs.Text.{turned}
-use Rattle.texts.proofs.Text.{take-turned}
+use Rattle.laws.proofs.Laws.{cut-turned}
 use Rattle.identify.specs.Block.{model}
 use Rattle.pages.specs.Page.{standard}
 use Rattle.pages.proofs.Laws.{length-product}
@@ -48,7 +48,7 @@ returns c =
     let h = p .before .before .before .before in
     let a = h .before .before .before .before .before .before in
     let block = a .args .block .now in
-    beside (beside {t = take 16 (turned (model block))} (rw (h .before .before .before .removable .ensures) at (h .put-short .ensures)) (rw (p .product .ensures, ← take-turned 8 (model block)) at (c .before .before .before .before .before .before .before .put-turned .ensures)) refl)
+    beside (beside {t = take 16 (turned (model block))} (rw (h .before .before .before .removable .ensures) at (h .put-short .ensures)) (rw (p .product .ensures, ← cut-turned 8 (model block)) at (c .before .before .before .before .before .before .before .put-turned .ensures)) refl)
     (c .before .before .put-short2 .ensures) (omega (arith, length-product block (a .pre)))
 
 pub put-standard-spec : {M : Type 1} → statement M

@@ -1,0 +1,2 @@
+-- The laws of cutting and turning.
+pub mod Laws
