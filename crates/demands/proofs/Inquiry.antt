@@ -2,12 +2,13 @@
 use mathlib.Core.Path.{_≡_, refl, sym, ap, _∙_}
 use mathlib.Core.Bool.{Bool, true, false, cond, _&&_, _||_, not, or-true}
 use mathlib.Core.List.{List, _++_}
-use Prim.Native.Nat.{ℕ, _≤_, min}
+use Prim.Native.Nat.{ℕ, _/_, _%_, _≤_, _<_, min}
 use native.Mathlib.Omega.{arith}
 use lib.Dec.{eqb}
-use lib.ListN.{length, take, drop}
-use lib.Seq.{take-all, take-append-seam}
-use borrow.Author.Tests.{eq-eqb}
+use lib.ListN.{length, getD, take, drop, set, length-take, length-set}
+use lib.Seq.{take-append-le, getD-set-same, getD-set-other}
+use borrow.Author.Tests.{eq-eqb, eqb-false}
+use Rattle.laws.proofs.Laws.{cut-twice, cut-to-more, cut-to-the-size}
 use Rattle.identify.specs.Drive.{carriesName}
 use Rattle.page83.specs.Page83.{page83}
 use Rattle.page83.proofs.Laws.{page-sizes}
@@ -18,7 +19,7 @@ use Rattle.inquiry_checks.specs.Checks.{refusalOf}
 use Rattle.inquiry_checks.specs.Helpers.{earlyRefusal}
 use Rattle.inquiry_checks.proofs.Laws.{granted, accepted-early}
 use Rattle.inquiry.specs.Inquiry.{Outcome, refused, passed, served, inquiry}
-use Rattle.demands.specs.Promises.{WithinAllocation, AsksItsName, shown, PagesOfInquiry}
+use Rattle.demands.specs.Promises.{WithinAllocation, withAllocation, asking, shown, CutAgain, AsksItsName, PagesOfInquiry}
 use Rattle.demands.proofs.Refusals.{not-refused}
 use Rattle.demands.proofs.Page83.{same-drive-same-page, same-page}
 
@@ -31,53 +32,101 @@ within-allocation q room sense = by (eqb (refusalOf q (length room) (length sens
     by true false = omega arith
     by false through = omega arith
 
--- What an accepted INQUIRY for the complete page 83h was lent, and what it shows: the page.
-module _ (q : Request) (room sense : List ℕ) (a : AsksItsName q) where
+-- What an accepted INQUIRY shows: the drive's own reply or the page, cut to the allocation length.
+module _ (q : Request) (room sense : List ℕ) where
   abbrev refusal : ℕ
   refusal = refusalOf q (length room) (length sense)
 
-  abbrev accepted : Outcome
-  accepted = cond (passesThrough (isPacket q) (q .command)) (passed q room sense) (served q room sense)
+  abbrev accepted : Bool → Outcome
+  accepted through = cond through (passed q room sense) (served q room sense)
 
   zero : inquiry q room sense .answer .number ≡ 0 → refusal ≡ 0
   unfolding inquiry
-  zero e = not-refused (λ (o : Outcome). o .answer .number) (λ n. refused n room sense) accepted refusal refl e
+  zero e = not-refused (λ (o : Outcome). o .answer .number) (λ n. refused n room sense) (accepted (passesThrough (isPacket q) (q .command))) refusal refl e
 
+  early : refusal ≡ 0 → earlyRefusal q (length sense) ≡ 0
+  early z = accepted-early q (length room) (length sense) z
+
+  inquiry-is : refusal ≡ 0 → inquiry q room sense ≡ accepted (passesThrough (isPacket q) (q .command))
+  unfolding inquiry
+  inquiry-is z = rw (eq-eqb refusal 0 z)
+
+  shows : refusal ≡ 0 → shown q (inquiry q room sense) ≡ take (allocation (q .command)) (cond (passesThrough (isPacket q) (q .command)) (q .reply) (page q))
+  shows z = ap (shown q) (inquiry-is z) ∙ by (passesThrough (isPacket q) (q .command))
+    where
+      by : (t : Bool) → shown q (accepted t) ≡ take (allocation (q .command)) (cond t (q .reply) (page q))
+      by true = cut-to-the-size (allocation (q .command)) (q .reply)
+      by false =
+          let n = toWrite q in
+          let least : min n n ≡ n = omega arith in
+          take-append-le n (take n (page q)) (drop n room) (omega (arith, length-take n (page q)))
+          ∙ cut-twice n n (page q)
+          ∙ ap (λ (k : ℕ). take k (page q)) least
+          ∙ cut-to-the-size (allocation (q .command)) (page q)
+
+-- Bytes 3 and 4 of a command are its allocation length, and nothing else hangs on them.
+module _ (q : Request) where
+  elsewhere : (n i : ℕ) → eqb i 3 ≡ false → eqb i 4 ≡ false → getD (withAllocation n (q .command)) i 0 ≡ getD (q .command) i 0
+  elsewhere n i h k =
+      getD-set-other (set (q .command) 3 (n / 0x100)) 4 i (n % 0x100) 0 (eqb-false _ _ k)
+      ∙ getD-set-other (q .command) 3 i (n / 0x100) 0 (eqb-false _ _ h)
+
+  abbrev whatever : List ℕ
+  whatever = cond (passesThrough (isPacket q) (q .command)) (q .reply) (page q)
+
+  same-reply : (n : ℕ) → cond (passesThrough (isPacket q) (withAllocation n (q .command))) (q .reply) (page (asking q n)) ≡ whatever
+  unfolding page
+  same-reply n = simp (elsewhere n 1 refl refl, elsewhere n 2 refl refl)
+
+  own-length : (n : ℕ) → 6 ≤ length (withAllocation n (q .command)) → n < 0x10000 → allocation (withAllocation n (q .command)) ≡ n
+  own-length n l h =
+      let k : 6 ≤ length (set (q .command) 3 (n / 0x100)) = omega (arith, length-set (set (q .command) 3 (n / 0x100)) 4 (n % 0x100)) in
+      let m : 6 ≤ length (q .command) = omega (arith, length-set (q .command) 3 (n / 0x100)) in
+      let high : getD (withAllocation n (q .command)) 3 0 ≡ n / 0x100 =
+      getD-set-other (set (q .command) 3 (n / 0x100)) 4 3 (n % 0x100) 0 (eqb-false 3 4 refl) ∙ getD-set-same (q .command) 3 (n / 0x100) 0 (omega arith) in
+      let low : getD (withAllocation n (q .command)) 4 0 ≡ n % 0x100 = getD-set-same (set (q .command) 3 (n / 0x100)) 4 (n % 0x100) 0 (omega arith) in
+      rw (high, low) (omega arith)
+
+  shows-asked : (n : ℕ) (room sense : List ℕ) → n < 0x10000 → inquiry (asking q n) room sense .answer .number ≡ 0 → shown (asking q n) (inquiry (asking q n) room sense) ≡ take n whatever
+  shows-asked n room sense h e =
+      let z = zero (asking q n) room sense e in
+      let l = granted (asking q n) (length sense) (early (asking q n) room sense z) .whole in
+      shows (asking q n) room sense z ∙ ap (λ (k : ℕ). take k (cond (passesThrough (isPacket q) (withAllocation n (q .command))) (q .reply) (page (asking q n)))) (own-length n l h) ∙ ap (take n) (same-reply n)
+
+pub cut-again : CutAgain
+cut-again q a b room sense other-room other-sense le lt ea eb =
+    let least : min b a ≡ a = omega arith in
+    shows-asked q a room sense (omega arith) ea
+    ∙ sym (ap (take a) (shows-asked q b other-room other-sense lt eb) ∙ cut-twice b a (whatever q) ∙ ap (λ (n : ℕ). take n (whatever q)) least)
+
+-- Asked for the complete page 83h, it shows the page.
+module _ (q : Request) (room sense : List ℕ) (a : AsksItsName q) where
   through : passesThrough (isPacket q) (q .command) ≡ false
   through = rw (a .disk)
-
-  inquiry-is : refusal ≡ 0 → inquiry q room sense ≡ served q room sense
-  unfolding inquiry
-  inquiry-is z = rw (eq-eqb refusal 0 z, a .disk)
 
   page-is : page q ≡ page83 (q .block)
   unfolding page
   page-is = rw (a .disk, a .page-asked, a .page-83h)
 
-  whole : refusal ≡ 0 → length (q .block) ≡ 512
-  whole z = granted q (length sense) (accepted-early q (length room) (length sense) z) .servable through .block (rw (a .disk, a .page-asked, a .page-83h))
+  whole : refusal q room sense ≡ 0 → length (q .block) ≡ 512
+  whole z = granted q (length sense) (early q room sense z) .servable through .block (rw (a .disk, a .page-asked, a .page-83h))
 
-  short-enough : length (q .block) ≡ 512 → length (page q) ≤ allocation (q .command)
-  short-enough l = rw (page-is, page-sizes (q .block) l) (by (carriesName (q .block)))
+  short-enough : length (q .block) ≡ 512 → length (page83 (q .block)) ≤ allocation (q .command)
+  short-enough l = rw (page-sizes (q .block) l) (by (carriesName (q .block)))
     where
       by : (t : Bool) → cond t 16 76 ≤ allocation (q .command)
       by true = omega (arith, a .complete)
       by false = a .complete
 
-  shown-is : refusal ≡ 0 → shown q (inquiry q room sense) ≡ page83 (q .block)
+  shown-is : refusal q room sense ≡ 0 → shown q (inquiry q room sense) ≡ page83 (q .block)
   shown-is z =
-      let l = short-enough (whole z) in
-      let n : toWrite q ≡ length (page q) = omega (arith, l) in
-      ap (shown q) (inquiry-is z)
-      ∙ ap (λ (k : ℕ). take k (take k (page q) ++ drop k room)) n
-      ∙ ap (λ (p : List ℕ). take (length (page q)) (p ++ drop (length (page q)) room)) (take-all (length (page q)) (page q) (omega arith))
-      ∙ take-append-seam (page q) (drop (length (page q)) room)
-      ∙ page-is
+      shows q room sense z
+      ∙ rw (through, page-is) (cut-to-more (allocation (q .command)) (page83 (q .block)) (short-enough (whole z)))
 
 pub pages-of-inquiry : PagesOfInquiry
 pages-of-inquiry q r room sense other-room other-sense a b ea eb =
-    let za = zero q room sense a ea in
-    let zb = zero r other-room other-sense b eb in
+    let za = zero q room sense ea in
+    let zb = zero r other-room other-sense eb in
     let pa = shown-is q room sense a za in
     let pb = shown-is r other-room other-sense b zb in (
       λ e. same-page (q .block) (r .block) (whole q room sense a za) (whole r other-room other-sense b zb) (sym pa ∙ e ∙ pb),

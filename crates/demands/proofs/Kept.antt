@@ -4,7 +4,7 @@ use Rattle.identify.proofs.Words.{same-drive-by-words}
 use Rattle.demands.specs.Promises.{Settled, OneOutcome, Promises}
 use Rattle.demands.proofs.Refusals.{refusals-change-nothing}
 use Rattle.demands.proofs.Soundings.{soundings-hold}
-use Rattle.demands.proofs.Inquiry.{within-allocation, pages-of-inquiry}
+use Rattle.demands.proofs.Inquiry.{within-allocation, cut-again, pages-of-inquiry}
 use Rattle.demands.proofs.Order.{direction-from-the-fields, only-the-command-differs, own-flags, completed-with-its-own-fields, none-taken-while-pending, protocol-15-keeps-the-record}
 use Rattle.demands.proofs.Page83.{reads-back, accepted-is-written, pages-of-the-writer}
 use Rattle.demands.proofs.Roll.{roll-of-drives}
@@ -36,6 +36,7 @@ kept =
       one-outcome = one-outcome;
       refusals-change-nothing = refusals-change-nothing;
       within-allocation = within-allocation;
+      cut-again = cut-again;
       soundings-hold = soundings-hold;
       direction-from-the-fields = direction-from-the-fields;
       only-the-command-differs = only-the-command-differs;

@@ -88,6 +88,22 @@ pub record RefusalsChangeNothing : Type 0 where
 abbrev pub WithinAllocation : Type 0
 WithinAllocation = (q : Request) (room sense : List ℕ) → inquiry q room sense .answer .count ≤ allocation (q .command)
 
+-- The same request with another allocation length.
+abbrev pub withAllocation : ℕ → List ℕ → List ℕ
+withAllocation n command = set (set command 3 (n / 0x100)) 4 (n % 0x100)
+
+abbrev pub asking : Request → ℕ → Request
+asking q n = request (withAllocation n (q .command)) (q .block) (q .signature) (q .texts) (q .reply)
+
+-- What is shown of an answer.
+abbrev pub shown : Request → Inquiry.Outcome → List ℕ
+shown q o = part (q .reply) (o .room) (o .answer .shown) (o .answer .count)
+
+-- A host that cuts a reply again sees what it would have asked for: for the lesser of two allocation lengths the first part is shown
+-- of what is shown for the greater, of a page and of a packet drive's own reply.
+abbrev pub CutAgain : Type 0
+CutAgain = (q : Request) (a b : ℕ) (room sense other-room other-sense : List ℕ) → a ≤ b → b < 0x10000 → inquiry (asking q a) room sense .answer .number ≡ 0 → inquiry (asking q b) other-room other-sense .answer .number ≡ 0 → shown (asking q a) (inquiry (asking q a) room sense) ≡ take a (shown (asking q b) (inquiry (asking q b) other-room other-sense))
+
 -- ## Demand 2: worked cases
 
 -- `SoundingsHold` in specs/Soundings: C1 to C13 hold of the rules.
@@ -229,9 +245,6 @@ pub record AsksItsName (q : Request) : Type 0 where
   pub page-83h : pageCode (q .command) ≡ 0x83
   pub complete : 76 ≤ allocation (q .command)
 
-abbrev pub shown : Request → Inquiry.Outcome → List ℕ
-shown q o = part (q .reply) (o .room) (o .answer .shown) (o .answer .count)
-
 -- and as INQUIRY shows them.
 abbrev pub PagesOfInquiry : Type 0
 PagesOfInquiry = (q r : Request) (room sense other-room other-sense : List ℕ) → AsksItsName q → AsksItsName r → inquiry q room sense .answer .number ≡ 0 → inquiry r other-room other-sense .answer .number ≡ 0 → (shown q (inquiry q room sense) ≡ shown r (inquiry r other-room other-sense)) ↔ (sameDrive (q .block) (r .block) ≡ true)
@@ -271,6 +284,7 @@ pub record Promises : Type 0 where
   pub one-outcome : OneOutcome
   pub refusals-change-nothing : RefusalsChangeNothing
   pub within-allocation : WithinAllocation
+  pub cut-again : CutAgain
   pub soundings-hold : SoundingsHold
   pub direction-from-the-fields : DirectionFromTheFields
   pub only-the-command-differs : OnlyTheCommandDiffers

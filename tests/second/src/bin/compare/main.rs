@@ -210,6 +210,8 @@ struct Agreed {
     pages: bool,
     /// Divided streams and single runs.
     streams: bool,
+    /// Two allocation lengths of one request.
+    cuts: bool,
 }
 
 /// The classes that take a seed or the real blocks.
@@ -226,13 +228,19 @@ fn seeded(board: &mut Board, asked: &Asked) -> Agreed {
     intakes::roll_twins(board, asked.seed);
     board.class("real drives");
     soundings::real_drives(board, &asked.real);
+    board.class("inquiry: two allocation lengths of one request");
+    let cuts = random::cut_again(board, asked.seed, &asked.real);
     board.class("sequences through one record");
     orders::sequences(board, asked.seed);
     if asked.calls > 0 {
         board.class("random and damaged inputs");
         random::calls(board, asked.seed, asked.calls, &asked.real);
     }
-    Agreed { pages, streams }
+    Agreed {
+        pages,
+        streams,
+        cuts,
+    }
 }
 
 #[derive(Default)]
@@ -261,6 +269,10 @@ fn coverage(board: &Board, agreed: &Agreed, report: &mut Report) {
     report.check(
         agreed.streams,
         "intake: a divided stream comes to what a single run gives",
+    );
+    report.check(
+        agreed.cuts,
+        "inquiry: the lesser allocation length shows the first part of the greater",
     );
     report.check(
         cover(&board.counts),

@@ -33,6 +33,43 @@ pub fn calls(board: &mut Board, seed: u64, count: u64, real: &[Vec<u8>]) {
     }
 }
 
+/// Random requests, each asked at two allocation lengths: whether the lesser
+/// always shows the first part of what the greater shows.
+pub fn cut_again(board: &mut Board, seed: u64, real: &[Vec<u8>]) -> bool {
+    let mut numbers = Numbers::new(seed);
+    let mut known = lent::blocks();
+    known.extend(real.iter().cloned());
+    let mut agreed = 0;
+    for _ in 0..20_000 {
+        let mut call = inquiry(&mut numbers, &known);
+        let mut lengths = [numbers.below(600) as u16, numbers.below(600) as u16];
+        lengths.sort_unstable();
+        let lesser = shown(board, &mut call, lengths[0]);
+        let greater = shown(board, &mut call, lengths[1]);
+        if let (Some(lesser), Some(greater)) = (lesser, greater) {
+            if lesser != greater[..greater.len().min(lengths[0].into())] {
+                return false;
+            }
+            agreed += 1;
+        }
+    }
+    agreed > 1_000
+}
+
+/// What the second program shows of a request with an allocation length, where
+/// it accepts it; the board is asked the same.
+fn shown(board: &mut Board, call: &mut Call, length: u16) -> Option<Vec<u8>> {
+    call.pieces[0][3..5].copy_from_slice(&length.to_be_bytes());
+    board.call(call);
+    let lent = &call.pieces;
+    let (mut room, mut sense) = (lent[5].clone(), lent[6].clone());
+    let answer = second::inquiry(
+        &lent[0], &lent[1], &lent[2], &lent[3], &lent[4], &mut room, &mut sense,
+    );
+    let from = if answer.shown == 0 { &lent[4] } else { &room };
+    (answer.number == 0).then(|| from[..answer.count].to_vec())
+}
+
 /// Changes, cuts or extends one of the lent pieces.
 fn damage(call: &mut Call, numbers: &mut Numbers) {
     let at = numbers.below(call.pieces.len());
