@@ -1,4 +1,5 @@
--- INQUIRY: no reply passes the allocation length (demand 1), and when the pages 83h of two drives are equal (demand 3).
+-- INQUIRY: no reply passes the allocation length (demand 1), a reply cut again is the reply to the lesser length, and when the pages
+-- 83h of two drives are equal (demand 3).
 use mathlib.Core.Path.{_≡_, refl, sym, ap, _∙_}
 use mathlib.Core.Bool.{Bool, true, false, cond, _&&_, _||_, not, or-true}
 use mathlib.Core.List.{List, _++_}

@@ -1,6 +1,6 @@
--- The promises: what the rules say of the three demands, each a statement with a name, in the demands' order. Nothing is proved on
--- this page; proofs/Kept has a proof of each. An entry's contract equates all that the entry does with the rule that is named here, so
--- that each promise is one about the entry.
+-- The promises: what the rules say of the three demands and of the intake, each a statement with a name, in the demands' order.
+-- Nothing is proved on this page; proofs/Kept has a proof of each. An entry's contract equates all that the entry does with the rule
+-- that is named here, so that each promise is one about the entry.
 use mathlib.Core.Path.{_≡_}
 use mathlib.Core.Bool.{Bool, true, false, cond}
 use mathlib.Core.Logic.{_⊎_, _↔_}
