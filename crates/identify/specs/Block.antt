@@ -15,6 +15,10 @@ words first last block = take (2 * (last + 1 - first)) (drop (2 * first) block)
 abbrev pub serial : List ℕ → List ℕ
 serial block = words 10 19 block
 
+-- The firmware text: words 23 to 26.
+abbrev pub firmware : List ℕ → List ℕ
+firmware block = words 23 26 block
+
 -- The model: words 27 to 46.
 abbrev pub model : List ℕ → List ℕ
 model block = words 27 46 block

@@ -6,7 +6,7 @@ ghost use mathlib.Core.List.{List, map};
 ghost use lib.ListN.{length};
 ghost use Rattle.texts.specs.Text.{spaced};
 ghost use Rattle.texts.specs.Helpers.{shown};
-ghost use Rattle.identify.specs.Block.{word as Block·word, serial as Block·serial, model as Block·model, name as Block·name};
+ghost use Rattle.identify.specs.Block.{word as Block·word, serial as Block·serial, firmware as Block·firmware, model as Block·model, name as Block·name};
 ghost use Rattle.identify.specs.Drive.{someBit, carriesName, equal, sameDrive};
 
 fn wide(byte: u8) -> u16
@@ -29,6 +29,14 @@ pub fn serial(block: &[u8]) -> &[u8]
     ensures { λ r. ⌜ now r ≡ Block·serial (now (block .entry)) ⌝ }
 {
     &block[20..40]
+}
+
+// The firmware text as it stands in the block.
+pub fn firmware(block: &[u8]) -> &[u8]
+    requires { ⌜ length (now block) ≡ 512 ⌝ }
+    ensures { λ r. ⌜ now r ≡ Block·firmware (now (block .entry)) ⌝ }
+{
+    &block[46..54]
 }
 
 // The model as it stands in the block.

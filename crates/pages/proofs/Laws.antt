@@ -5,12 +5,12 @@ use mathlib.Core.List.{List, [], _∷_, _++_}
 use Prim.Native.Nat.{ℕ, _+_, _-_, _≤_, min}
 use native.Mathlib.Omega.{arith}
 use lib.ListN.{length, take, length-append, length-take}
-use Rattle.identify.specs.Block.{serial, model}
-use Rattle.texts.specs.Text.{turned, spaced}
-use Rattle.identify.proofs.Block.{length-serial, length-model}
-use Rattle.texts.proofs.Text.{length-turned, length-spaced}
+use Rattle.identify.specs.Block.{serial, firmware, model}
+use Rattle.texts.specs.Text.{turned, spaced, revision}
+use Rattle.identify.proofs.Block.{length-serial, length-firmware, length-model}
+use Rattle.texts.proofs.Text.{length-turned, length-spaced, length-revision}
 use Rattle.page83.specs.Page83.{ata}
-use Rattle.pages.specs.Page.{standard, page00, page80, page89, typeByte, commandCode, blockOrZeros, revision}
+use Rattle.pages.specs.Page.{standard, page00, page80, page89, typeByte, commandCode, blockOrZeros}
 
 -- Of a whole block.
 module _ (block : List ℕ) (h : length block ≡ 512) where
@@ -20,8 +20,7 @@ module _ (block : List ℕ) (h : length block ≡ 512) where
   pub length-standard : length (standard block) ≡ 36
   unfolding standard
   length-standard =
-      let p = take 16 (turned (model block)) in
-      simp length-append (omega (arith, length-product))
+      simp length-append (omega (arith, length-product, length-revision (firmware block) (length-firmware block h)))
 
   pub length-page80 : length (page80 block) ≡ 24
   unfolding page80

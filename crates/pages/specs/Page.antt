@@ -4,22 +4,18 @@ use mathlib.Core.List.{List, [], _∷_, _++_}
 use Prim.Native.Nat.{ℕ}
 use lib.Dec.{eqb}
 use lib.ListN.{length, take, replicate}
-use Rattle.identify.specs.Block.{word, serial, model}
-use Rattle.texts.specs.Text.{turned, spaced}
+use Rattle.identify.specs.Block.{word, serial, firmware, model}
+use Rattle.texts.specs.Text.{turned, spaced, revision}
 use Rattle.page83.specs.Page83.{ata}
 use Rattle.rules.specs.Bits.{bit, bits}
 
--- PRODUCT REVISION LEVEL: four spaces.
-abbrev pub revision : List ℕ
-revision = 0x20 ∷ 0x20 ∷ 0x20 ∷ 0x20 ∷ []
-
 -- Standard data, 36 bytes (RULES 6.1): the RMB bit from word 0 bit 7; the vendor; 16 bytes of the turned model, in which zero
--- bytes stay; the revision level.
+-- bytes stay; the revision of the firmware text.
 unfoldable pub standard : List ℕ → List ℕ
 standard block =
     0x00 ∷ cond (bit 7 (word block 0)) 0x80 0x00 ∷ 0x05 ∷ 0x02 ∷ 0x1F ∷ 0x00 ∷ 0x00 ∷ 0x00 ∷ ata
     ++ take 16 (turned (model block))
-    ++ revision
+    ++ revision (firmware block)
 
 -- Page 00h, 8 bytes (RULES 6.2): the four pages that the board serves.
 unfoldable pub page00 : List ℕ

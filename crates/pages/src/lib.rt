@@ -57,8 +57,7 @@ pub fn put_standard(room: &mut [u8], block: &[u8])
     // PRODUCT IDENTIFICATION
     texts::put_turned(room, 16, product(block));
     // PRODUCT REVISION LEVEL
-    let revision = [b' ', b' ', b' ', b' '];
-    room::put_short(room, 32, &revision);
+    texts::put_revision(room, 32, identify::firmware(block));
 }
 
 pub const STANDARD_SIZE: usize = 36;

@@ -1,14 +1,15 @@
 -- Laws of turned and spaced texts, each over texts of every length.
 use mathlib.Core.Path.{_≡_, refl, ap, _∙_, sym}
-use mathlib.Core.Bool.{Bool, true, false}
+use mathlib.Core.Bool.{Bool, true, false, cond, _&&_, and-false}
 use mathlib.Core.List.{List, [], _∷_, map}
 use Prim.Native.Nat.{ℕ, zero, suc, _+_, _-_, _*_, _%_, _<_, _≤_}
 use native.Mathlib.Nat.{le-of-suc-le-suc, not-suc-le-zero}
 use native.Mathlib.Omega.{arith}
-use lib.Dec.{eqb·suc-zero}
-use lib.ListN.{length, getD, take, drop, length-map}
+use lib.Dec.{eqb, eqb·suc-zero}
+use lib.ListN.{length, getD, take, drop, length-map, length-take, length-drop}
 use Rattle.room.proofs.Laws.{four}
-use Rattle.texts.specs.Text.{turned, space, spaced}
+use borrow.Author.Tests.{eq-eqb, ne-eqb}
+use Rattle.texts.specs.Text.{turned, space, spaced, allSpaces, revisionPart, revision}
 use Rattle.texts.specs.Helpers.{shown}
 
 -- Turning keeps the length, and so does making zeros spaces.
@@ -93,3 +94,36 @@ four-words s i even h =
     let eight : i + 4 + 4 ≡ i + 8 = omega arith in
     rw shown-as-it-is at (two-words (shown false) s i even (omega arith))
     ∙ ap (λ (t : List ℕ). getD s (i + 1) 0 ∷ getD s i 0 ∷ getD s (i + 3) 0 ∷ getD s (i + 2) 0 ∷ t) (rw (shown-as-it-is, five, six, seven, eight) at (two-words (shown false) s (i + 4) (omega arith) (omega arith)))
+
+-- A text is all spaces where every byte is one, and is not where one byte is none.
+pub every-space : (s : List ℕ) → ((k : ℕ) → k < length s → getD s k 0 ≡ 0x20) → allSpaces s ≡ true
+unfolding allSpaces
+every-space [] z = refl
+every-space (b ∷ s) z = rw (eq-eqb b 0x20 (z 0 (omega arith))) (every-space s (λ k h. z (suc k) (omega arith)))
+
+pub no-space-at : (s : List ℕ) (k : ℕ) → k < length s → (getD s k 0 ≡ 0x20 → ⊥) → allSpaces s ≡ false
+unfolding allSpaces
+no-space-at [] k h n = absurd (not-suc-le-zero h)
+no-space-at (b ∷ s) zero h n = rw (ne-eqb b 0x20 n)
+no-space-at (b ∷ s) (suc k) h n = rw (no-space-at s k (le-of-suc-le-suc h) n, and-false)
+
+-- A revision has four bytes, whichever part is shown.
+length-cond : (b : Bool) (s t : List ℕ) {n : ℕ} → length s ≡ n → length t ≡ n → length (cond b s t) ≡ n
+length-cond true s t hs ht = hs
+length-cond false s t hs ht = ht
+
+pub length-revision : (firmware : List ℕ) → length firmware ≡ 8 → length (revision firmware) ≡ 4
+unfolding revision
+length-revision f h =
+    length-turned (revisionPart f)
+    ∙ length-cond (allSpaces (drop 4 f)) (take 4 f) (drop 4 f) (length-take 4 f ∙ omega arith) (length-drop 4 f ∙ omega arith)
+
+-- Two words, turned.
+pub turned-two-words : (s : List ℕ) → length s ≡ 4 → turned s ≡ getD s 1 0 ∷ getD s 0 0 ∷ getD s 3 0 ∷ getD s 2 0 ∷ []
+unfolding turned
+turned-two-words (a ∷ b ∷ c ∷ d ∷ []) h = refl
+turned-two-words [] h = absurd (omega arith)
+turned-two-words (a ∷ []) h = absurd (omega arith)
+turned-two-words (a ∷ b ∷ []) h = absurd (omega arith)
+turned-two-words (a ∷ b ∷ c ∷ []) h = absurd (omega arith)
+turned-two-words (a ∷ b ∷ c ∷ d ∷ e ∷ s) h = absurd (omega arith)

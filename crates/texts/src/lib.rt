@@ -1,11 +1,11 @@
-// Texts: how the texts of an IDENTIFY block are written: the bytes of each word exchanged, zero bytes kept or made spaces. The
-// rules stand in specs/Text.
+// Texts: how the texts of an IDENTIFY block are written: the bytes of each word exchanged, zero bytes kept or made spaces; and which
+// part of the firmware text is shown as a revision. The rules stand in specs/Text.
 ghost use mathlib.Core.Path.{_≡_};
 ghost use mathlib.Core.List.{List, map};
 ghost use Prim.Native.Nat.{_+_, _%_, _<_, _≤_};
 ghost use lib.ListN.{length, getD, take, drop};
 ghost use Rattle.room.specs.Room.{Wrote};
-ghost use Rattle.texts.specs.Text.{turned, spaced};
+ghost use Rattle.texts.specs.Text.{turned, spaced, allSpaces, revisionPart, revision};
 ghost use Rattle.texts.specs.Helpers.{shown as Text·shown};
 
 // A byte of a text, with zero as a space or as it stands.
@@ -107,4 +107,41 @@ pub fn put_spaced(room: &mut [u8], at: usize, text: &[u8])
         return;
     }
     put_each(room, at, text, true);
+}
+
+// Whether every byte is a space.
+fn all_spaces(text: &[u8]) -> bool
+    ensures { λ r. ⌜ r ≡ allSpaces (now (text .entry)) ⌝ }
+{
+    let mut at = 0;
+    while at < text.len() {
+        if text[at] != 0x20 {
+            return false;
+        }
+        at += 1;
+    }
+    true
+}
+
+// The two words of a firmware text that are shown as its revision, as they stand.
+fn revision_part(firmware: &[u8]) -> &[u8]
+    requires { ⌜ length (now firmware) ≡ 8 ⌝ }
+    ensures part { λ r. ⌜ now r ≡ revisionPart (now (firmware .entry)) ⌝ }
+    ensures size { λ r. ⌜ length (now r) ≡ 4 ⌝ }
+{
+    let last = &firmware[4..];
+    if all_spaces(last) {
+        return &firmware[..4];
+    }
+    last
+}
+
+// Writes the revision of a firmware text.
+pub fn put_revision(room: &mut [u8], at: usize, firmware: &[u8])
+    requires { ⌜ length (now firmware) ≡ 8 ⌝ }
+    ensures { λ _. ⌜ Wrote (now (room .entry)) at (revision (now (firmware .entry))) (now (room .exit)) ⌝ }
+{
+    let part = revision_part(firmware);
+    let turned = [part[1], part[0], part[3], part[2]];
+    room::put_short(room, at, &turned);
 }

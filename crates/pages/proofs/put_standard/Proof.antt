@@ -4,7 +4,7 @@ use native.Mathlib.Omega.{arith}
 use lib.ListN.{take}
 use lib.Seq.{length-take-le}
 use Rattle.room.proofs.Laws.{beside}
-use Rattle.identify.proofs.Block.{length-model}
+use Rattle.identify.proofs.Block.{length-firmware, length-model}
 use Rattle.texts.specs.Text.{turned}
 use Rattle.laws.proofs.Laws.{cut-turned}
 use Rattle.identify.specs.Block.{model}
@@ -32,11 +32,13 @@ put-turned-requires c κs =
     let block = a .args .block .now in
     rw (c .product .ensures, length-take-le 16 (model block) (omega (arith, length-model block (a .pre)))) (omega arith)
 
-slice-aggregate-put-short-2 : tie.Need-slice-aggregate-put-short-2
-slice-aggregate-put-short-2 c = search needs
+firmware-requires : tie.Need-firmware-requires
+firmware-requires c κs = search needs
 
-put-short-requires-2 : tie.Need-put-short-requires-2
-put-short-requires-2 c κs = search needs
+put-revision-requires : tie.Need-put-revision-requires
+put-revision-requires c κs =
+    let a = c .before .before .before .before .before .before .before .before .before .before .before .before .before .before .before in
+    rw (c .firmware .ensures) (length-firmware (a .args .block .now) (a .pre))
 
 same-length : tie.Need-same-length
 same-length c = search needs
@@ -49,7 +51,7 @@ returns c =
     let a = h .before .before .before .before .before .before in
     let block = a .args .block .now in
     beside (beside {t = take 16 (turned (model block))} (rw (h .before .before .before .removable .ensures) at (h .put-short .ensures)) (rw (p .product .ensures, ← cut-turned 8 (model block)) at (c .before .before .before .before .before .before .before .put-turned .ensures)) refl)
-    (c .before .before .put-short2 .ensures) (omega (arith, length-product block (a .pre)))
+    (rw (c .before .before .before .firmware .ensures) at (c .before .before .put-revision .ensures)) (omega (arith, length-product block (a .pre)))
 
 pub put-standard-spec : {M : Type 1} → statement M
 put-standard-spec =
@@ -60,7 +62,7 @@ put-standard-spec =
     put-short-requires
     product-requires
     put-turned-requires
-    slice-aggregate-put-short-2
-    put-short-requires-2
+    firmware-requires
+    put-revision-requires
     same-length
     returns)
