@@ -1,5 +1,5 @@
-// Labels: for each IDENTIFY block of 512 bytes that it is given a line with its place, its model and serial number as the
-// board shows them, its world wide name, and its drive's row in the roll, which is the row that `rollcall` prints.
+// Labels: for each IDENTIFY block of 512 bytes that it is given a line with its place, its model, serial number and firmware as the
+// board shows texts, its world wide name, and its drive's row in the roll, which is the row that `rollcall` prints.
 use input::Wanted;
 use libc::STDERR_FILENO;
 use libc::STDOUT_FILENO;
@@ -51,11 +51,13 @@ fn say_field(text: &[u8]) -> bool
     say(b" [") && say_text(&shown[..text.len()]) && say(b"]")
 }
 
-// The model and the serial number.
+// The model, the serial number and the firmware.
 fn say_texts(block: &[u8]) -> bool
     requires { ⌜ length (now block) ≡ 512 ⌝ }
 {
-    say_field(identify::model(block)) && say_field(identify::serial(block))
+    say_field(identify::model(block))
+        && say_field(identify::serial(block))
+        && say_field(identify::firmware(block))
 }
 
 // Word w, high byte first, in hexadecimal digits.
@@ -121,8 +123,8 @@ fn list(blocks: &[u8]) -> bool {
 fn say_help() -> bool {
     say(
         b"usage: labels [FILE ..] | --help | --version\n\
-        Prints for each block its place from 0, its model and serial number, its world wide name, and its drive's row. A byte\n\
-        of a text that is not printable is shown as \\x and two hexadecimal digits, a backslash as two.\n\
+        Prints for each block its place from 0, its model, serial number and firmware, its world wide name, and its drive's\n\
+        row. A byte of a text that is not printable is shown as \\x and two hexadecimal digits, a backslash as two.\n\
         Input: up to 64 IDENTIFY blocks of 512 bytes each.\n\
         It is the files, one behind the other, or standard input where no file is named.\n\
         Example: ./run labels data/identify/*.bin\n",

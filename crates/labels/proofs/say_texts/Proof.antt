@@ -1,6 +1,6 @@
--- `say_texts`: 40 bytes, and 20.
+-- `say_texts`: 40 bytes, 20 and 8.
 use native.Mathlib.Omega.{arith}
-use Rattle.identify.proofs.Block.{length-serial, length-model}
+use Rattle.identify.proofs.Block.{length-serial, length-firmware, length-model}
 use borrow.Author.Needs.{needs}
 use Rattle.labels.proofs.say_texts.Statement.{statement}
 use Rattle.labels.proofs.say_texts.Tie as tie
@@ -21,6 +21,14 @@ say-field-requires-2 c κs =
     let a = c .before .before .before .before .before in
     rw (c .serial .ensures, length-serial (a .args .block .now) (a .pre)) (omega arith, omega arith)
 
+firmware-requires : tie.Need-firmware-requires
+firmware-requires c κs = search needs
+
+say-field-requires-3 : tie.Need-say-field-requires-3
+say-field-requires-3 c κs =
+    let a = c .before .before .before .before .before .before in
+    rw (c .firmware .ensures, length-firmware (a .args .block .now) (a .pre)) (omega arith, omega arith)
+
 returns : tie.Need-returns
 returns c = search needs
 
@@ -35,5 +43,7 @@ say-texts-spec =
     say-field-requires
     serial-requires
     say-field-requires-2
+    firmware-requires
+    say-field-requires-3
     returns
     returns-2)
