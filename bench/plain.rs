@@ -154,6 +154,8 @@ fn standard_data(block: &Block) -> [u8; 36] {
     let mut page = *b"\x00\x00\x05\x02\x1F\x00\x00\x00ATA                         ";
     page[1] = block[0] & 0x80;
     turn(&block[54..70], &mut page[16..32], kept);
+    let revision = if block[50..54] == *b"    " { &block[46..50] } else { &block[50..54] };
+    turn(revision, &mut page[32..], kept);
     page
 }
 

@@ -17,12 +17,59 @@ pub fn standard_data(block: &[u8]) -> Vec<u8> {
     page.extend([0x05, 0x02, 0x1F, 0x00, 0x00, 0x00]);
     page.extend(VENDOR);
     page.extend(&turned_model(block)[..16]);
-    page.extend(b"    ");
     if fault::planted("product-zeros-made-spaces") {
         let product = spaces_for_zeros(&page[16..]);
         page[16..].copy_from_slice(&product);
     }
+    page.extend(revision(block));
     page
+}
+
+/// The last four letters of the firmware's eight; where those are left blank,
+/// the first four. A zero byte is no blank, and stays (RULES 6.1).
+fn revision(block: &[u8]) -> Vec<u8> {
+    let last = turned(block, 25, 26);
+    let blank = last.iter().all(|&byte| byte == 0x20);
+    let shown = if blank { turned(block, 23, 24) } else { last };
+    spoilt_revision(block, shown)
+}
+
+/// The planted faults of the revision.
+fn spoilt_revision(block: &[u8], shown: Vec<u8>) -> Vec<u8> {
+    let (first, last) = (turned(block, 23, 24), turned(block, 25, 26));
+    let blank = |byte: &u8| *byte == 0x20;
+    let either = |use_first: bool| {
+        if use_first {
+            first.clone()
+        } else {
+            last.clone()
+        }
+    };
+    if fault::planted("revision-left-blank") {
+        return b"    ".to_vec();
+    }
+    if fault::planted("revision-from-23-24-first") {
+        return either(!first.iter().all(blank));
+    }
+    if fault::planted("revision-from-24-25") {
+        return turned(block, 24, 25);
+    }
+    if fault::planted("revision-not-turned") {
+        return shown
+            .chunks(2)
+            .flat_map(|pair| [pair[1], pair[0]])
+            .collect();
+    }
+    if fault::planted("revision-zeros-made-spaces") {
+        return spaces_for_zeros(&shown);
+    }
+    if fault::planted("revision-second-choice-for-zeros") {
+        return either(spaces_for_zeros(&last).iter().all(blank));
+    }
+    if fault::planted("revision-second-choice-for-some-spaces") {
+        return either(last.iter().any(blank));
+    }
+    shown
 }
 
 /// The list of pages (RULES 6.2).

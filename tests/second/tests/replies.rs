@@ -9,11 +9,12 @@ use common::*;
 fn standard_data() {
     let mut block = text_block();
     block[0] = 0x00;
+    block[46..54].copy_from_slice(b"WF0 1300");
     block[54..70].copy_from_slice(b"eHrrni gT8B\0 x-1");
     let mut wanted = vec![0x00, 0x00, 0x05, 0x02, 0x1F, 0x00, 0x00, 0x00];
     wanted.extend(b"ATA     ");
     wanted.extend(b"Herring 8T\0Bx 1-");
-    wanted.extend(b"    ");
+    wanted.extend(b"3100");
     let ask = Ask::new(&[0x12, 0x00, 0x00, 0x00, 0xFF, 0x00]);
     ask.clone().block(&block).writes(&wanted);
     // Word 0 bit 7 is bit 7 of byte 0, and no other bit of word 0 counts.
@@ -24,6 +25,30 @@ fn standard_data() {
     block[1] = 0x00;
     wanted[1] = 0x80;
     ask.block(&block).writes(&wanted);
+}
+
+/// Words 25-26, and words 23-24 where those are four spaces and nothing else.
+#[test]
+fn revision_level() {
+    let cases: [(&[u8; 8], &[u8; 4]); 9] = [
+        (b"badcfehg", b"efgh"),
+        (b"badc    ", b"abcd"),
+        (b"badc   g", b"  g "),
+        (b"badcf   ", b" f  "),
+        (b"badc\0\0\0\0", b"\0\0\0\0"),
+        (b"badc  \0 ", b"   \0"),
+        (b"b\0\0c    ", b"\0bc\0"),
+        (b"        ", b"    "),
+        (b"\0\0\0\0    ", b"\0\0\0\0"),
+    ];
+    for (firmware, wanted) in cases {
+        let mut block = text_block();
+        block[46..54].copy_from_slice(firmware);
+        let ask = Ask::new(&[0x12, 0x00, 0x00, 0x00, 0xFF, 0x00]).block(&block);
+        let (answer, room, _) = ask.run();
+        assert_eq!((answer.number, answer.count), (0, 36));
+        assert_eq!(&room[32..36], wanted);
+    }
 }
 
 #[test]

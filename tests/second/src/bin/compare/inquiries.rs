@@ -138,6 +138,30 @@ pub fn all_pages(board: &mut Board) {
     }
 }
 
+/// Standard data of every firmware text that is made of letters, spaces and
+/// zero bytes, and of texts with a byte that is next to one of these.
+pub fn revisions(board: &mut Board) {
+    let standard = [0x12, 0, 0, 0, 36, 0];
+    for text in 0..3_usize.pow(8) {
+        let mut block = lent::text_block();
+        for at in 0..8 {
+            let kinds = [0x41 + at as u8, 0x20, 0x00];
+            block[46 + at] = kinds[text / 3_usize.pow(at as u32) % 3];
+        }
+        board.call(&lent::inquiry(&standard).piece(1, block));
+    }
+    for at in 46..54 {
+        for value in [0x01, 0x1F, 0x21, 0x2F, 0x30, 0xA0, 0xFF] {
+            for rest in [0x20, 0x00] {
+                let mut block = lent::text_block();
+                block[46..54].fill(rest);
+                block[at] = value;
+                board.call(&lent::inquiry(&standard).piece(1, block));
+            }
+        }
+    }
+}
+
 /// The type byte and removable bit: every value of word 0.
 pub fn first_word(board: &mut Board) {
     for bits in (0..=0xFFFF_u16).step_by(5).chain(0..256) {

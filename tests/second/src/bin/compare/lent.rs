@@ -72,8 +72,11 @@ pub fn blocks() -> Vec<Vec<u8>> {
     removable[0] |= 0x80;
     let mut fixed = holey_block();
     fixed[0] &= 0x7F;
+    let mut blank_revision = text_block();
+    blank_revision[50..54].fill(0x20);
     let mut all = vec![zero_block(), block_0(), text_block(), holey_block()];
-    all.extend([removable, fixed, vec![0xFF; 512], vec![0x20; 512]]);
+    all.extend([removable, fixed, blank_revision]);
+    all.extend([vec![0xFF; 512], vec![0x20; 512]]);
     for at in 216..224 {
         let mut one_bit = text_block();
         one_bit[at] = 1 << (at % 8);

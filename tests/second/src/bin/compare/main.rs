@@ -116,7 +116,7 @@ fn real_blocks(folder: &str) -> io::Result<Vec<Vec<u8>>> {
 /// A class of inputs that takes nothing but the board.
 type Inputs = fn(&mut Board);
 
-const CLASSES: [(&str, Inputs); 29] = [
+const CLASSES: [(&str, Inputs); 30] = [
     ("soundings C1 to C13", soundings::numbered),
     ("the other soundings", soundings::others),
     ("published examples", soundings::published),
@@ -139,6 +139,7 @@ const CLASSES: [(&str, Inputs); 29] = [
     ("inquiry: allocation lengths", inquiries::allocation_lengths),
     ("inquiry: all page codes and flags", inquiries::all_pages),
     ("inquiry: word 0", inquiries::first_word),
+    ("inquiry: firmware texts", inquiries::revisions),
     ("inquiry: signatures", inquiries::signatures),
     ("packet: replies that pass", inquiries::passed),
     ("packet: 89h at every place of page 00h", inquiries::lists),

@@ -97,7 +97,8 @@ fn block(numbers: &mut Numbers, known: &[Vec<u8>]) -> Vec<u8> {
     }
     let mut block = known[numbers.below(known.len())].clone();
     for _ in 0..numbers.below(6) {
-        let field = numbers.pick(&[(0, 2), (20, 20), (54, 40), (216, 8), (0, 512)]);
+        let fields = [(0, 2), (20, 20), (46, 8), (54, 40), (216, 8), (0, 512)];
+        let field = numbers.pick(&fields);
         let at = field.0 + numbers.below(field.1);
         block[at] = if numbers.once_in(2) {
             0
@@ -107,6 +108,9 @@ fn block(numbers: &mut Numbers, known: &[Vec<u8>]) -> Vec<u8> {
     }
     if numbers.once_in(4) {
         block[216..224].fill(0);
+    }
+    if numbers.once_in(8) {
+        block[50..54].fill(0x20);
     }
     block
 }
