@@ -3,7 +3,7 @@ of reading a text, the name, and when two blocks are the same drive. Nothing of 
 and the C and Rust code of tests/ and bench/ read blocks on their own, and stay so: readings that share nothing judge each other."""
 
 SIZE = 512
-SERIAL, MODEL, NAME = (10, 19), (27, 46), (108, 111)
+SERIAL, FIRMWARE, MODEL, NAME = (10, 19), (23, 26), (27, 46), (108, 111)
 
 
 def blocks(data):
@@ -33,6 +33,10 @@ def model(block):
 
 def serial(block):
     return spaced(turned(block, SERIAL))
+
+
+def firmware(block):
+    return spaced(turned(block, FIRMWARE))
 
 
 def name(block):

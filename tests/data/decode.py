@@ -15,8 +15,8 @@ def main():
         if not any(identify.same_drive(drive, block) for drive in met):
             met.append(block)
         row = 1 + [identify.same_drive(drive, block) for drive in met].index(True)
-        line = b"%d [%s] [%s] %s drive %d\n" % (place, identify.model(block), identify.serial(block), shown.encode(), row)
-        sys.stdout.buffer.write(line)
+        texts = identify.model(block), identify.serial(block), identify.firmware(block)
+        sys.stdout.buffer.write(b"%d [%s] [%s] [%s] %s drive %d\n" % (place, *texts, shown.encode(), row))
 
 
 main()

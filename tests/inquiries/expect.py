@@ -23,7 +23,14 @@ WHOLE = 0xFFFF
 def standard(block):
     """6.1"""
     removable = block[0] & 0x80
-    return bytes((0x00, removable)) + bytes.fromhex('05021F000000') + b'ATA     ' + identify.turned(block, identify.MODEL)[:16] + b'    '
+    product = identify.turned(block, identify.MODEL)[:16]
+    return bytes((0x00, removable)) + bytes.fromhex('05021F000000') + b'ATA     ' + product + revision(block)
+
+
+def revision(block):
+    """6.1: the firmware's last four letters, or its first four where those are spaces; zero bytes are kept, and are no spaces"""
+    letters = identify.turned(block, identify.FIRMWARE)
+    return letters[:4] if letters[4:] == b'    ' else letters[4:]
 
 
 def page_00(block):

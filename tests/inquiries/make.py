@@ -1,12 +1,13 @@
 #!/usr/bin/env python3
 """make.py DIR: writes inputs for the program `inquiries` into DIR, one file NAME.in each: blocks of which every part that a
 page shows is tried (docs/RULES.md, section 5)."""
+import itertools
 import os
 import random
 import sys
 
 BLOCK = 512
-SERIAL, MODEL, NAME = range(20, 40), range(54, 94), range(216, 224)
+SERIAL, FIRMWARE, MODEL, NAME = range(20, 40), range(46, 54), range(54, 94), range(216, 224)
 
 
 def changed(block, at, value):
@@ -27,6 +28,10 @@ def any_bytes(count, all_named):
     return blocks
 
 
+def with_firmware(text):
+    return UNNAMED[:FIRMWARE.start] + text + UNNAMED[FIRMWARE.stop:]
+
+
 ZEROS = bytes(BLOCK)
 RISING = bytes(at % 251 + 1 for at in range(BLOCK))
 UNNAMED = RISING[:NAME.start] + bytes(len(NAME)) + RISING[NAME.stop:]
@@ -43,6 +48,9 @@ INPUTS = {
     'zeros_in_serials': [changed(UNNAMED, at, value) for at in SERIAL for value in (0x00, 0x20)],
     'zeros_in_models': [changed(UNNAMED, at, 0x00) for at in MODEL],
     'spaces_in_models': [changed(UNNAMED, at, 0x20) for at in MODEL],
+    # Letters, spaces and zero bytes in every place of words 25-26, and in each place of words 23-24 where those are spaces.
+    'revisions': [with_firmware(b'badc' + bytes(rest)) for rest in itertools.product(b'f\0 ', repeat=4) if rest.count(b'f'[0]) < 2],
+    'first_choice_blank': [with_firmware(changed(b'badc    ', at, value)) for at in range(4) for value in (0x00, 0x20, 0x7A)],
     'any_bytes': any_bytes(64, all_named=True),
     'any_bytes_some_unnamed': any_bytes(63, all_named=False),
 }

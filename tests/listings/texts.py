@@ -15,18 +15,26 @@ def turned(text):
     return b"".join(text[i + 1 : i + 2] + text[i : i + 1] for i in range(0, len(text), 2))
 
 
-def block(model, serial):
+def block(model, serial, firmware):
     data = bytearray(512)
     data[20:40] = turned(serial)
+    data[46:54] = turned(firmware)
     data[54:94] = turned(model)
     return bytes(data)
 
 
-every = bytes(range(256)).ljust(300)
-pairs = [(every[i : i + 40], every[i + 40 : i + 60]) for i in range(0, 300, 60)]
+def listed(place, model, serial, firmware):
+    return f"{place} [{shown(model)}] [{shown(serial)}] [{shown(firmware)}] no name drive {place + 1}\n"
+
+
+# Each byte comes up in the long texts, and in the firmware's; no two drives have the same long texts.
+every = bytes(range(256))
+longs = every * 8
+drives = [(longs[60 * i :][:40], longs[60 * i + 40 :][:20], every[8 * i :][:8]) for i in range(32)]
 folder = pathlib.Path(sys.argv[1])
-(folder / "texts.in").write_bytes(b"".join(block(model, serial) for model, serial in pairs))
-lines = [f"{i} [{shown(model)}] [{shown(serial)}] no name drive {i + 1}\n" for i, (model, serial) in enumerate(pairs)]
+(folder / "texts.in").write_bytes(b"".join(block(*texts) for texts in drives))
+lines = [listed(i, *texts) for i, texts in enumerate(drives)]
 (folder / "texts.out").write_text("".join(lines), encoding="ascii")
 # One block whose output stands in the suite, written by hand.
-(folder / "hand.in").write_bytes(block(b"\x1b[2J\x1b]0;drive\x07\nSECOND LINE".ljust(40), b"SN\n\x1b\\7\x7f\x80\xff".ljust(20)))
+by_hand = b"\x1b[2J\x1b]0;drive\x07\nSECOND LINE".ljust(40), b"SN\n\x1b\\7\x7f\x80\xff".ljust(20), b"\x1b]2;\nV1\0"
+(folder / "hand.in").write_bytes(block(*by_hand))
