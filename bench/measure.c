@@ -183,7 +183,7 @@ static void make_copy(const measured *one, const maker *by, left *to)
 }
 
 static const measured calls[] = {
-    {"inquiry, standard data", 125, 36, make_inquiry, 0, {0x12, 0, 0x00, 2, 0x3C}},
+    {"inquiry, standard data", 140, 36, make_inquiry, 0, {0x12, 0, 0x00, 2, 0x3C}},
     {"inquiry, page 00h", 95, 8, make_inquiry, 0, {0x12, 1, 0x00, 2, 0x3C}},
     {"inquiry, page 80h", 84, 24, make_inquiry, 0, {0x12, 1, 0x80, 2, 0x3C}},
     {"inquiry, page 83h, name", 120, 16, make_inquiry, 0, {0x12, 1, 0x83, 2, 0x3C}},
