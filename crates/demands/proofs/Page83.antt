@@ -14,11 +14,12 @@ use Rattle.room.specs.Room.{written}
 use Rattle.identify.specs.Bytes.{Bytes, no-more, more}
 use Rattle.identify.specs.Block.{words, serial, model, name}
 use Rattle.texts.specs.Text.{turned, space, spaced}
-use Rattle.identify.specs.Drive.{someBit, carriesName, equal, sameDrive}
+use Rattle.identify.specs.Drive.{someBit, saysNamed, carriesName, equal, sameDrive}
 use Rattle.identify.proofs.Block.{length-name}
+use Rattle.identify.proofs.Words.{field-word}
 use Rattle.texts.proofs.Text.{length-turned}
 use Rattle.laws.proofs.Laws.{turned-twice, turned-injective, turned-spaced}
-use Rattle.identify.proofs.Drive.{equal-same, OneName, OneText, same-drive-means, same-drive-when}
+use Rattle.identify.proofs.Drive.{named-some-bit, said-named, equal-same, OneName, OneText, same-drive-means, same-drive-when}
 use Rattle.page83.specs.Page83 as Page83
 use Rattle.page83.specs.Page83.{page83, namePage, textPage, checks, refusalOf, Outcome, write}
 use Rattle.page83_reader.specs.Reader.{noZero, namesDrive, tellsTexts, inSixty, read}
@@ -70,10 +71,9 @@ passed n k head page asked h =
 module _ (block : List ℕ) (l : length block ≡ 512) where
   -- The page of a drive that carries a name is read as its name,
   reads-back-name : carriesName block ≡ true → read (page83 block) ≡ record { number = 0; form = 1; name = inSixty (turned (name block)) }
-  unfolding carriesName
   reads-back-name h =
       rw (named-page block h)
-      (read-name (turned (name block)) (length-turned (name block) ∙ length-name block l) (some-bit-turned (name block) ∙ h))
+      (read-name (turned (name block)) (length-turned (name block) ∙ length-name block l) (some-bit-turned (name block) ∙ named-some-bit block h))
 
   -- and that of a drive that carries none as its model and its serial number.
   reads-back-texts : carriesName block ≡ false → read (page83 block) ≡ record { number = 0; form = 2; name = inSixty (spaced (turned (model block)) ++ spaced (turned (serial block))) }
@@ -134,9 +134,14 @@ length-zeros : (n : ℕ) → length (zeros n) ≡ n
 unfolding zeros
 length-zeros n = length-replicate n 0x00
 
--- The block that has these bytes in words 10-19, 27-46 and 108-111, and zeros elsewhere.
+-- A word 87 that says that there is a name.
+abbrev said : List ℕ
+said = 0x00 ∷ 0x41 ∷ []
+
+-- The block that has these bytes in words 10-19, 27-46 and 108-111, that word 87, and zeros elsewhere.
 blockOf : List ℕ → List ℕ → List ℕ → List ℕ
-blockOf serial model name = zeros 20 ++ serial ++ zeros 14 ++ model ++ zeros 122 ++ name ++ zeros 288
+blockOf serial model name =
+    zeros 20 ++ serial ++ zeros 14 ++ model ++ zeros 80 ++ said ++ zeros 40 ++ name ++ zeros 288
 
 record Fields (s m n : List ℕ) : Type 0 where
   serial-fits : length s ≡ 20
@@ -152,24 +157,29 @@ module _ {s m n : List ℕ} (f : Fields s m n) where
   serial-of : serial (blockOf s m n) ≡ s
   unfolding blockOf
   serial-of =
-      put-back 10 19 (blockOf s m n) (zeros 20) s (zeros 14 ++ m ++ zeros 122 ++ n ++ zeros 288) (simp append-assoc)
+      put-back 10 19 (blockOf s m n) (zeros 20) s (zeros 14 ++ m ++ zeros 80 ++ said ++ zeros 40 ++ n ++ zeros 288) (simp append-assoc)
       (length-zeros 20) (f .serial-fits)
 
   model-of : model (blockOf s m n) ≡ m
   unfolding blockOf
   model-of =
-      put-back 27 46 (blockOf s m n) (zeros 20 ++ s ++ zeros 14) m (zeros 122 ++ n ++ zeros 288) (simp append-assoc)
+      put-back 27 46 (blockOf s m n) (zeros 20 ++ s ++ zeros 14) m (zeros 80 ++ said ++ zeros 40 ++ n ++ zeros 288) (simp append-assoc)
       (simp (length-append, length-zeros) (omega arith)) (f .model-fits)
 
   name-of : name (blockOf s m n) ≡ n
   unfolding blockOf
   name-of =
-      put-back 108 111 (blockOf s m n) (zeros 20 ++ s ++ zeros 14 ++ m ++ zeros 122) n (zeros 288) refl
+      put-back 108 111 (blockOf s m n) (zeros 20 ++ s ++ zeros 14 ++ m ++ zeros 80 ++ said ++ zeros 40) n (zeros 288) refl
       (simp (length-append, length-zeros) (omega arith)) (f .name-fits)
 
+  said-of : words 87 87 (blockOf s m n) ≡ said
+  unfolding blockOf
+  said-of =
+      put-back 87 87 (blockOf s m n) (zeros 20 ++ s ++ zeros 14 ++ m ++ zeros 80) said (zeros 40 ++ n ++ zeros 288) (simp append-assoc)
+      (simp (length-append, length-zeros) (omega arith)) refl
+
   carries : carriesName (blockOf s m n) ≡ someBit n
-  unfolding carriesName
-  carries = ap someBit name-of
+  carries = said-named (blockOf s m n) (ap saysNamed (field-word 87 (blockOf s m n) said-of)) ∙ ap someBit name-of
 
   page-of-name : someBit n ≡ true → page83 (blockOf s m n) ≡ namePage (turned n)
   page-of-name h = named-page (blockOf s m n) (carries ∙ h) ∙ rw name-of
@@ -198,9 +208,12 @@ unfolding zeros
 bytes-zeros zero = no-more
 bytes-zeros (suc n) = more {byte = 0} (omega arith) (bytes-zeros n)
 
+bytes-said : Bytes said
+bytes-said = more {byte = 0x00} (omega arith) (more {byte = 0x41} (omega arith) no-more)
+
 bytes-block : {s m n : List ℕ} → Bytes s → Bytes m → Bytes n → Bytes (blockOf s m n)
 unfolding blockOf
-bytes-block s m n = search (bytes-append, bytes-zeros) depth 8
+bytes-block s m n = search (bytes-append, bytes-zeros, bytes-said) depth 10
 
 -- The writer can make this page: a block of 512 has it, and one of bytes where the page is of bytes.
 abbrev Made : List ℕ → Type 0

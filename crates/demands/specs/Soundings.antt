@@ -15,9 +15,9 @@ use Rattle.passthrough.specs.Record.{empty}
 use Rattle.passthrough.specs.Submit.{submit, Outcome as Submission}
 use Rattle.passthrough.specs.Complete.{complete, Outcome as Completion}
 
--- The first block of the roll's sample: zero but for its name, in bytes 216 to 223.
+-- The first block of the roll's sample: zero but for word 87, which says that there is a name, and the name, in bytes 216 to 223.
 abbrev pub block0 : List ℕ
-block0 = replicate 216 0x00 ++ (0x00 ∷ 0x50 ∷ 0x00 ∷ 0xC5 ∷ 0x34 ∷ 0x12 ∷ 0x78 ∷ 0x56 ∷ []) ++ replicate 288 0x00
+block0 = replicate 174 0x00 ++ (0x00 ∷ 0x41 ∷ []) ++ replicate 40 0x00 ++ (0x00 ∷ 0x50 ∷ 0x00 ∷ 0xC5 ∷ 0x34 ∷ 0x12 ∷ 0x78 ∷ 0x56 ∷ []) ++ replicate 288 0x00
 
 -- Room and sense room are lent with a byte that no reply has at their ends.
 abbrev pub room : List ℕ

@@ -9,9 +9,9 @@ use native.Mathlib.Omega.{arith}
 use lib.Dec.{eqb, eqb·suc-zero}
 use lib.ListN.{length, getD, length-map}
 use borrow.Author.Tests.{eq-eqb, ne-eqb, eqb-true}
-use Rattle.identify.specs.Block.{serial, model, name}
+use Rattle.identify.specs.Block.{word, serial, model, name}
 use Rattle.texts.specs.Text.{spaced}
-use Rattle.identify.specs.Drive.{someBit, carriesName, equal, sameDrive}
+use Rattle.identify.specs.Drive.{someBit, saysNamed, carriesName, equal, sameDrive}
 use Rattle.texts.proofs.Text.{getD-map}
 
 -- No bit is one where every byte is zero, and some bit is one where some byte is not.
@@ -26,6 +26,15 @@ some-bit-at [] k h n = absurd (not-suc-le-zero h)
 some-bit-at (b ∷ s) zero h n = rw (ne-eqb b 0 n)
 some-bit-at (zero ∷ s) (suc k) h n = some-bit-at s k (le-of-suc-le-suc h) n
 some-bit-at (suc b ∷ s) (suc k) h n = rw (eqb·suc-zero b)
+
+-- A block that carries a name has some bit in its name words; and where word 87 says so, that is all that is left to ask.
+pub named-some-bit : (block : List ℕ) → carriesName block ≡ true → someBit (name block) ≡ true
+unfolding carriesName
+named-some-bit block e = and-eq-true-iff (saysNamed (word block 87)) (someBit (name block)) .0 e .1
+
+pub said-named : (block : List ℕ) → saysNamed (word block 87) ≡ true → carriesName block ≡ someBit (name block)
+unfolding carriesName
+said-named block s = rw s
 
 -- `equal` says that two lists are one and the same.
 pub equal-self : (s : List ℕ) → equal s s ≡ true

@@ -3,7 +3,8 @@ use mathlib.Core.Bool.{Bool, true, false, not, _&&_, _||_}
 use mathlib.Core.List.{List, [], _∷_}
 use Prim.Native.Nat.{ℕ}
 use lib.Dec.{eqb}
-use Rattle.identify.specs.Block.{serial, model, name}
+use Rattle.rules.specs.Bits.{bit, bits}
+use Rattle.identify.specs.Block.{word, serial, model, name}
 use Rattle.texts.specs.Text.{spaced}
 
 -- Some byte is not zero, so some bit is one.
@@ -11,9 +12,13 @@ unfoldable pub someBit : List ℕ → Bool
 someBit [] = false
 someBit (byte ∷ bytes) = not (eqb byte 0) || someBit bytes
 
--- A block carries a name where some bit of its name words is one.
+-- Word 87 says that there is a name: its bits 15:14 are 01b, and bit 8 is one.
+abbrev pub saysNamed : ℕ → Bool
+saysNamed w = eqb (bits 15 14 w) 1 && bit 8 w
+
+-- A block carries a name where word 87 says so and some bit of its name words is one.
 unfoldable pub carriesName : List ℕ → Bool
-carriesName block = someBit (name block)
+carriesName block = saysNamed (word block 87) && someBit (name block)
 
 -- The same bytes, byte for byte.
 unfoldable pub equal : List ℕ → List ℕ → Bool

@@ -1,5 +1,5 @@
 -- The IDENTIFY block, and which drive it speaks of.
 pub mod Block
 pub mod Bytes
-pub mod Words
 pub mod Drive
+pub mod Words

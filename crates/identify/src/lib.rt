@@ -7,7 +7,7 @@ ghost use lib.ListN.{length};
 ghost use Rattle.texts.specs.Text.{spaced};
 ghost use Rattle.texts.specs.Helpers.{shown};
 ghost use Rattle.identify.specs.Block.{word as Block·word, serial as Block·serial, firmware as Block·firmware, model as Block·model, name as Block·name};
-ghost use Rattle.identify.specs.Drive.{someBit, carriesName, equal, sameDrive};
+ghost use Rattle.identify.specs.Drive.{someBit, saysNamed, carriesName, equal, sameDrive};
 
 fn wide(byte: u8) -> u16
     ensures { λ r. ⌜ r ≡ byte ⌝ }
@@ -69,12 +69,25 @@ pub fn some_bit(bytes: &[u8]) -> bool
     false
 }
 
+// Whether word 87 says that there is a name.
+fn says_named(w: u16) -> bool
+    ensures { λ r. ⌜ r ≡ saysNamed w ⌝ }
+{
+    if w / 16384 % 4 != 1 {
+        return false;
+    }
+    w / 256 % 2 == 1
+}
+
 // Whether a block carries a world wide name.
 pub fn carries_name(block: &[u8]) -> bool
     requires { ⌜ length (now block) ≡ 512 ⌝ }
     ensures { λ r. ⌜ r ≡ carriesName (now (block .entry)) ⌝ }
 {
-    some_bit(name(block))
+    if says_named(word(block, 87)) {
+        return some_bit(name(block));
+    }
+    false
 }
 
 // Whether two texts are equal, with zero bytes read as spaces or as they stand.
