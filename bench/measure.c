@@ -224,6 +224,8 @@ static piongseut_record record_for(const measured *one)
 static void prepare(const measured *one, left *to)
 {
     static const uint8_t name[8] = {0x00, 0x50, 0x00, 0xC5, 0x34, 0x12, 0x78, 0x56}, none[8];
+    block[174] = 0x00; /* word 87 says that there is a name */
+    block[175] = 0x41;
     memcpy(block + 216, one->how & TEXTS ? none : name, 8);
     memcpy(signature + 5, one->how & PACKET ? "\x14\xEB" : "\0", 2);
     for (unsigned i = 0; i < PIONGSEUT_ROLL_BLOCKS; i++) {

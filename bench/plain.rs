@@ -169,8 +169,9 @@ fn page80(block: &Block) -> [u8; 24] {
 const NAME_HEAD: [u8; 8] = [0x00, 0x83, 0x00, 0x0C, 0x01, 0x03, 0x00, 0x08];
 const TEXTS_HEAD: [u8; 16] = *b"\x00\x83\x00\x48\x02\x01\x00\x44ATA     ";
 
+/// Byte 175 is the upper half of word 87, whose bits 15:14 and bit 8 say whether the name counts.
 fn carries_name(block: &[u8]) -> bool {
-    block[216..224].iter().any(|&byte| byte != 0)
+    block[175] & 0xC1 == 0x41 && block[216..224] != [0; 8]
 }
 
 /// Writes the first bytes of page 83h, as many as the allocation length lets through.

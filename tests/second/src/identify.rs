@@ -1,6 +1,8 @@
 //! The fields of an IDENTIFY block of 512 bytes (RULES 5), read here on their own
 //! and not as `tools/identify.py` does: readings that share nothing judge each other.
 
+use crate::fault;
+
 /// A word has its low byte first.
 pub fn word(block: &[u8], w: usize) -> u16 {
     let low = u16::from(block[2 * w]);
@@ -35,9 +37,50 @@ pub fn turned_name(block: &[u8]) -> Vec<u8> {
     turned(block, 108, 111)
 }
 
-/// A name of zeros is none.
+/// A name counts where the drive says that it has one; and one of zeros is
+/// none (RULES 5).
 pub fn has_name(block: &[u8]) -> bool {
+    if fault::planted("name-of-zeros") {
+        return says_it_has_a_name(block);
+    }
+    says_it_has_a_name(block) && has_name_bits(block)
+}
+
+/// Whether a bit of words 108-111 is one, which alone may be anything.
+pub fn has_name_bits(block: &[u8]) -> bool {
     (108..=111).any(|w| word(block, w) != 0)
+}
+
+/// Word 87: bits 15:14 as 01b tell that the word counts, and bit 8 of it that
+/// there is a name.
+fn says_it_has_a_name(block: &[u8]) -> bool {
+    let said = word(block, 87);
+    spoilt_says(block, said >> 14 == 0b01 && said & 0x0100 != 0)
+}
+
+/// The planted faults of word 87.
+fn spoilt_says(block: &[u8], says: bool) -> bool {
+    let tells = |said: u16| said & 0xC100 == 0x4100;
+    let said = word(block, 87);
+    if fault::planted("name-word-not-asked") {
+        return true;
+    }
+    if fault::planted("name-without-bit-8") {
+        return said >> 14 == 0b01;
+    }
+    if fault::planted("name-word-84") {
+        return tells(word(block, 84));
+    }
+    if fault::planted("name-word-86") {
+        return tells(word(block, 86));
+    }
+    if fault::planted("name-word-exchanged") {
+        return tells(said.swap_bytes());
+    }
+    let taken_too = (fault::planted("name-word-valid-by-00b") && said & 0xC100 == 0x0100)
+        || (fault::planted("name-word-valid-by-10b") && said & 0xC100 == 0x8100)
+        || (fault::planted("name-word-valid-by-11b") && said & 0xC100 == 0xC100);
+    says || taken_too
 }
 
 /// What a text that is spaced has for this byte.

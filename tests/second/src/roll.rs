@@ -1,6 +1,6 @@
 //! The roll of drives, and the text of the program `rollcall` (RULES 11).
 
-use crate::identify::{has_name, space_for_zero, word};
+use crate::identify::{has_name, has_name_bits, space_for_zero, word};
 use crate::{fault, refusal};
 
 const BLOCK: usize = 512;
@@ -67,7 +67,12 @@ fn same_drive(a: &[u8], b: &[u8]) -> bool {
     if fault::planted("roll-by-sixteen-letters") {
         return a[54..70] == b[54..70];
     }
-    match (has_name(a), has_name(b)) {
+    let b_has_name = if fault::planted("name-word-asked-of-one-block") {
+        has_name_bits(b)
+    } else {
+        has_name(b)
+    };
+    match (has_name(a), b_has_name) {
         (true, true) => same_name(a, b),
         (false, false) => same_texts(a, b),
         _ => false,

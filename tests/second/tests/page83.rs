@@ -156,7 +156,7 @@ fn what_is_read_can_be_written() {
         let block = match read.form {
             0 => continue,
             1 => {
-                let mut block = zero_block();
+                let mut block = block_0();
                 for at in (0..8).step_by(2) {
                     block[216 + at] = read.name[at + 1];
                     block[216 + at + 1] = read.name[at];

@@ -92,6 +92,7 @@ fn page_83_text() {
 fn page_83_of_each_name_bit() {
     for bit in 0..64 {
         let mut block = text_block();
+        block[174..176].copy_from_slice(&NAMED);
         block[216 + bit / 8] = 1 << (bit % 8);
         let mut wanted = vec![0x00, 0x83, 0x00, 0x0C, 0x01, 0x03, 0x00, 0x08];
         for at in [217, 216, 219, 218, 221, 220, 223, 222] {
@@ -100,6 +101,22 @@ fn page_83_of_each_name_bit() {
         Ask::new(&[0x12, 0x01, 0x83, 0x00, 0xFF, 0x00])
             .block(&block)
             .writes(&wanted);
+    }
+}
+
+/// A name is shown for the values of word 87 that say so, and no others.
+#[test]
+fn page_83_of_every_word_87() {
+    let page_83 = Ask::new(&[0x12, 0x01, 0x83, 0x00, 0x04, 0x00]);
+    for word in 0..=0xFFFF_u16 {
+        let mut block = block_0();
+        block[174..176].copy_from_slice(&word.to_le_bytes());
+        let named = word & 0x8000 == 0 && word & 0x4000 != 0 && word & 0x0100 != 0;
+        let length = if named { 0x0C } else { 0x48 };
+        let ask = page_83.clone().block(&block);
+        ask.writes(&[0x00, 0x83, 0x00, length]);
+        block[216..224].fill(0);
+        ask.block(&block).writes(&[0x00, 0x83, 0x00, 0x48]);
     }
 }
 

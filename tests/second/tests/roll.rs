@@ -70,6 +70,7 @@ fn nothing_else_counts_for_a_text() {
 #[test]
 fn a_name_alone_counts() {
     let mut same_name = [0xEE; 512];
+    same_name[174..176].copy_from_slice(&NAMED);
     same_name[216..224].copy_from_slice(&BLOCK_0_NAME);
     assert_eq!(rows_of(&[block_0(), same_name]), (vec![1, 1], 1));
     for at in 216..224 {
@@ -90,8 +91,38 @@ fn zero_bytes_of_a_name_are_kept() {
 #[test]
 fn a_name_and_no_name_are_two_drives() {
     let mut named = text_block();
+    named[174..176].copy_from_slice(&NAMED);
     named[223] = 1;
     assert_eq!(rows_of(&[text_block(), named]), (vec![1, 2], 2));
+}
+
+/// Twelve drives of one maker, with factory text where a name stands.
+#[test]
+fn factory_text_is_no_name() {
+    let blocks: Vec<[u8; 512]> = (0..12)
+        .map(|at| {
+            let mut block = text_block();
+            block[174..176].copy_from_slice(&[0x00, 0x40]);
+            block[216..224].copy_from_slice(b"AFTCRO Y");
+            block[21] = b'A' + at;
+            block
+        })
+        .collect();
+    let (rows, drives) = rows_of(&blocks);
+    assert_eq!((rows, drives), ((1..=12).collect(), 12));
+    let mut other_text = blocks[3];
+    other_text[220] ^= 1;
+    assert_eq!(rows_of(&[blocks[3], other_text]), (vec![1, 1], 1));
+}
+
+/// Both blocks are asked whether they have a name.
+#[test]
+fn a_name_and_factory_text_are_two_drives() {
+    let mut junk = block_0();
+    junk[175] = 0x40;
+    assert_eq!(rows_of(&[block_0(), junk]), (vec![1, 2], 2));
+    assert_eq!(rows_of(&[junk, block_0()]), (vec![1, 2], 2));
+    assert_eq!(rows_of(&[junk, zero_block()]), (vec![1, 1], 1));
 }
 
 #[test]
@@ -150,7 +181,7 @@ fn rows_agree_with_the_pages() {
 fn some_block(numbers: &mut Numbers) -> [u8; 512] {
     let mut block = zero_block();
     for _ in 0..numbers.below(3) {
-        let at = [20, 39, 54, 93, 216, 223, 0, 94][numbers.below(8)];
+        let at = [20, 39, 54, 93, 175, 216, 223, 0, 94][numbers.below(9)];
         block[at] = [0x00, 0x20, 0x41][numbers.below(3)];
     }
     block

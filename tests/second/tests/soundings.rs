@@ -195,7 +195,7 @@ fn published_status_return() {
 /// `inhex/vpd_dev_id.hex` of sg3_utils 1.46: the first descriptor of a disk's page 83h.
 #[test]
 fn published_name() {
-    let mut block = zero_block();
+    let mut block = block_0();
     block[216..224].copy_from_slice(&[0x00, 0x50, 0x00, 0xC5, 0x11, 0x30, 0x2B, 0xCB]);
     Ask::new(&[0x12, 0x01, 0x83, 0x00, 0xFF, 0x00])
         .block(&block)

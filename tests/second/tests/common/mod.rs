@@ -9,6 +9,9 @@ pub const FILL: u8 = 0xA5;
 
 pub const BLOCK_0_NAME: [u8; 8] = [0x00, 0x50, 0x00, 0xC5, 0x34, 0x12, 0x78, 0x56];
 
+/// The bytes of word 87 in a block that has a name.
+pub const NAMED: [u8; 2] = [0x00, 0x41];
+
 pub const PLAIN: [u8; 20] = [0; 20];
 
 /// The registers of C12.
@@ -36,9 +39,11 @@ pub fn zero_block() -> [u8; 512] {
     [0; 512]
 }
 
-/// Block 0 of the roll's sample: zero but for its name.
+/// Block 0 of the roll's sample: zero but for its name, and word 87, which
+/// says that it has one.
 pub fn block_0() -> [u8; 512] {
     let mut block = zero_block();
+    block[174..176].copy_from_slice(&NAMED);
     block[216..224].copy_from_slice(&BLOCK_0_NAME);
     block
 }

@@ -5,6 +5,7 @@ use crate::call::{
     numbers_in, Call, COMPLETE, INQUIRY, INTAKE_INQUIRY, INTAKE_ROLL, INTAKE_TAKE, READ, ROLL,
     SUBMIT, WRITE,
 };
+use crate::lent::carries_name;
 
 /// A set of refusal numbers: bit n for number n.
 pub type Set = u32;
@@ -124,8 +125,7 @@ fn to_intakes(call: &Call, sizes: &[usize]) -> Set {
 }
 
 fn page83_size(block: &[u8]) -> usize {
-    let name = block.get(216..224).unwrap_or(&[]);
-    if name.iter().any(|&byte| byte != 0) {
+    if carries_name(block) {
         16
     } else {
         76

@@ -41,17 +41,42 @@ pub fn zero_block() -> Vec<u8> {
     vec![0; 512]
 }
 
-/// Block 0 of the sample (RULES 11): zero but for its name.
+/// Block 0 of the sample (RULES 11): zero but for its name, and word 87, which
+/// says that it has one.
 pub fn block_0() -> Vec<u8> {
     let mut block = zero_block();
     block[216..224].copy_from_slice(&[0x00, 0x50, 0x00, 0xC5, 0x34, 0x12, 0x78, 0x56]);
+    with_word(block, 87, NAMED)
+}
+
+/// What word 87 says of a drive that has a name.
+pub const NAMED: u16 = 0x4100;
+
+/// The block with this word.
+pub fn with_word(mut block: Vec<u8>, w: usize, value: u16) -> Vec<u8> {
+    block[2 * w..2 * w + 2].copy_from_slice(&value.to_le_bytes());
     block
+}
+
+/// Whether a block of any size carries a name (RULES 5), read here once more.
+pub fn carries_name(block: &[u8]) -> bool {
+    let says = block.get(175).map_or(false, |high| high & 0xC1 == 0x41);
+    let name = block.get(216..224).unwrap_or(&[]);
+    says && name.iter().any(|&byte| byte != 0)
 }
 
 /// A block without a name, whose neighbouring bytes differ.
 pub fn text_block() -> Vec<u8> {
     let mut block: Vec<u8> = (0..512).map(|at| 1 + (at % 251) as u8).collect();
     block[216..224].fill(0);
+    block
+}
+
+/// A block with factory text where a name stands, and word 87 that says there
+/// is none.
+pub fn junk_block() -> Vec<u8> {
+    let mut block = with_word(text_block(), 87, NAMED & !0x0100);
+    block[216..224].copy_from_slice(b"AFTCRO Y");
     block
 }
 
@@ -76,9 +101,9 @@ pub fn blocks() -> Vec<Vec<u8>> {
     blank_revision[50..54].fill(0x20);
     let mut all = vec![zero_block(), block_0(), text_block(), holey_block()];
     all.extend([removable, fixed, blank_revision]);
-    all.extend([vec![0xFF; 512], vec![0x20; 512]]);
+    all.extend([junk_block(), vec![0xFF; 512], vec![0x20; 512]]);
     for at in 216..224 {
-        let mut one_bit = text_block();
+        let mut one_bit = with_word(text_block(), 87, NAMED);
         one_bit[at] = 1 << (at % 8);
         all.push(one_bit);
     }

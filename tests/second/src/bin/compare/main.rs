@@ -116,7 +116,7 @@ fn real_blocks(folder: &str) -> io::Result<Vec<Vec<u8>>> {
 /// A class of inputs that takes nothing but the board.
 type Inputs = fn(&mut Board);
 
-const CLASSES: [(&str, Inputs); 30] = [
+const CLASSES: [(&str, Inputs); 32] = [
     ("soundings C1 to C13", soundings::numbered),
     ("the other soundings", soundings::others),
     ("published examples", soundings::published),
@@ -145,9 +145,11 @@ const CLASSES: [(&str, Inputs); 30] = [
     ("packet: 89h at every place of page 00h", inquiries::lists),
     ("packet: unusable lists", inquiries::unusable_lists),
     ("page 83h: written and read back", pages_written),
+    ("page 83h: word 87", pages::name_words),
     ("page 83h: every byte damaged", pages::damaged),
     ("page 83h: cut, extended, mixed", pages::resized),
     ("roll: sizes and rows", rolls::sizes),
+    ("roll: word 87 of two blocks", rolls::name_words),
     ("intake: runs that end around byte 512", intakes::runs),
     ("intake: claims and stores", intakes::claims_and_stores),
     (

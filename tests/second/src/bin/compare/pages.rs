@@ -19,9 +19,10 @@ pub fn written(board: &mut Board) {
 
 /// Every byte of a block, changed: only names, models and serials matter.
 pub fn changed_blocks(board: &mut Board) {
-    for base in [lent::zero_block(), lent::text_block(), lent::block_0()] {
+    let bases = [lent::zero_block(), lent::text_block(), lent::block_0()];
+    for base in bases.iter().chain([&lent::junk_block()]) {
         for at in 0..512 {
-            for value in [0x00, 0x01, 0x20, 0x80, 0xFF] {
+            for value in [0x00, 0x01, 0x20, 0x41, 0x80, 0xFF] {
                 let mut block = base.clone();
                 block[at] = value;
                 board.call(&lent::write(&block, 80));
@@ -30,9 +31,29 @@ pub fn changed_blocks(board: &mut Board) {
     }
 }
 
+/// Every value of word 87, with a name and with zeros in its place; and what
+/// would say that there is a name, in the words around it.
+pub fn name_words(board: &mut Board) {
+    for base in [lent::block_0(), lent::text_block()] {
+        for value in 0..=0xFFFF {
+            let block = lent::with_word(base.clone(), 87, value);
+            board.call(&lent::write(&block, 80));
+        }
+    }
+    for w in 80..96 {
+        for value in [0x4100, 0x0041, 0x4141, 0x0000, 0xFFFF] {
+            for said in [0x4100, 0x0000] {
+                let block = lent::with_word(lent::block_0(), 87, said);
+                let block = lent::with_word(block, w, value);
+                board.call(&lent::inquiry_page(0x83, 255).piece(1, block));
+            }
+        }
+    }
+}
+
 /// The pages whose damage is tried: of a name, and of texts.
 fn damaged_ones() -> Vec<Vec<u8>> {
-    let mut one_bit = lent::text_block();
+    let mut one_bit = lent::with_word(lent::text_block(), 87, lent::NAMED);
     one_bit[223] = 0x80;
     let all = [lent::block_0(), one_bit, lent::holey_block()];
     let mut pages: Vec<_> = all.iter().map(|block| lent::page83(block)).collect();

@@ -97,14 +97,21 @@ fn block(numbers: &mut Numbers, known: &[Vec<u8>]) -> Vec<u8> {
     }
     let mut block = known[numbers.below(known.len())].clone();
     for _ in 0..numbers.below(6) {
-        let fields = [(0, 2), (20, 20), (46, 8), (54, 40), (216, 8), (0, 512)];
-        let field = numbers.pick(&fields);
+        let texts = [(20, 20), (46, 8), (54, 40)];
+        let others = [(0, 2), (174, 2), (216, 8), (0, 512)];
+        let field = match numbers.below(2) {
+            0 => numbers.pick(&texts),
+            _ => numbers.pick(&others),
+        };
         let at = field.0 + numbers.below(field.1);
         block[at] = if numbers.once_in(2) {
             0
         } else {
             numbers.byte()
         };
+    }
+    if numbers.once_in(3) {
+        block[175] = block[175] & 0x3E | 0x41;
     }
     if numbers.once_in(4) {
         block[216..224].fill(0);

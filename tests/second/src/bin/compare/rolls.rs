@@ -10,7 +10,10 @@ pub fn different() -> Vec<Vec<u8>> {
         .map(|at| {
             let mut block = lent::text_block();
             match at % 4 {
-                0 => block[216 + usize::from(at / 8)] = at + 1,
+                0 => {
+                    block = lent::with_word(block, 87, lent::NAMED);
+                    block[216 + usize::from(at / 8)] = at + 1;
+                }
                 1 => block[20 + usize::from(at / 4)] = 0xF0,
                 2 => block[54 + usize::from(at / 2)] = 0xF1,
                 _ => block[93] = 0x80 + at,
@@ -20,10 +23,11 @@ pub fn different() -> Vec<Vec<u8>> {
         .collect()
 }
 
-/// Changes that leave a drive the same: other words, and zeros for spaces.
+/// Changes that leave a drive the same: other words, and zeros for spaces. A
+/// drive without a name has none or factory text in its place.
 pub fn twin(block: &[u8], numbers: &mut Numbers) -> Vec<u8> {
     let mut twin = block.to_vec();
-    let named = twin[216..224].iter().any(|&byte| byte != 0);
+    let named = lent::carries_name(block);
     for at in (0..512).filter(|at| !(216..224).contains(at)) {
         let text = (20..40).contains(&at) || (54..94).contains(&at);
         if named || !text {
@@ -31,6 +35,14 @@ pub fn twin(block: &[u8], numbers: &mut Numbers) -> Vec<u8> {
         } else if twin[at] == 0x20 || twin[at] == 0x00 {
             twin[at] = numbers.pick(&[0x00, 0x20]);
         }
+    }
+    if named {
+        twin[175] = twin[175] & 0x3E | 0x41;
+    } else if numbers.once_in(2) {
+        twin[175] &= 0xFE;
+        twin[216..224].copy_from_slice(&numbers.bytes(8));
+    } else {
+        twin[216..224].fill(0);
     }
     twin
 }
@@ -79,9 +91,10 @@ pub fn one_byte(board: &mut Board) {
     let mut blank = lent::zero_block();
     blank[20..94].fill(0x20);
     let bases = [lent::text_block(), lent::block_0(), lent::holey_block()];
-    for base in bases.iter().chain([&blank, &lent::zero_block()]) {
+    let others = [lent::junk_block(), lent::zero_block(), blank];
+    for base in bases.iter().chain(&others) {
         for at in 0..512 {
-            for value in [0x00, 0x20, base[at] ^ 1] {
+            for value in [0x00, 0x20, 0x41, base[at] ^ 1] {
                 let mut other = base.clone();
                 other[at] = value;
                 board.call(&lent::roll(&[&base[..], &other].concat(), 2));
@@ -89,6 +102,39 @@ pub fn one_byte(board: &mut Board) {
         }
     }
 }
+
+/// Two blocks that say in word 87, each in its own way, that they have a name
+/// or none: with equal names and other texts, equal texts and other names, all
+/// the same, and no name but zeros.
+pub fn name_words(board: &mut Board) {
+    let mut other_texts = lent::block_0();
+    other_texts[20] = 0x41;
+    let mut other_name = lent::block_0();
+    other_name[216] ^= 1;
+    for first in WORDS_87 {
+        for second in WORDS_87 {
+            for other in [
+                &other_texts,
+                &other_name,
+                &lent::block_0(),
+                &lent::zero_block(),
+            ] {
+                let pair = [
+                    lent::with_word(lent::block_0(), 87, first),
+                    lent::with_word(other.clone(), 87, second),
+                ];
+                board.call(&lent::roll(&pair.concat(), 2));
+            }
+        }
+    }
+}
+
+/// All that bits 15:14 and bit 8 can say, the other bits as zeros or ones; and
+/// 4100h with its bytes exchanged.
+const WORDS_87: [u16; 17] = [
+    0x0000, 0x0100, 0x4000, 0x4100, 0x8000, 0x8100, 0xC000, 0xC100, 0x3EFF, 0x3FFF, 0x7EFF, 0x7FFF,
+    0xBEFF, 0xBFFF, 0xFEFF, 0xFFFF, 0x0041,
+];
 
 /// The sample of RULES 11.
 pub fn sample() -> Vec<u8> {

@@ -62,7 +62,7 @@ pub fn published(board: &mut Board) {
         0x00, 0x11, 0x22, 0x66, 0x33, 0x77, 0x44, 0x88, 0x55, 0x01, 0x02,
     ];
     board.call(&lent::complete(record, 0x02).piece(0, registers.to_vec()));
-    let mut block = lent::zero_block();
+    let mut block = lent::block_0();
     block[216..224].copy_from_slice(&[0x00, 0x50, 0x00, 0xC5, 0x11, 0x30, 0x2B, 0xCB]);
     board.call(&lent::inquiry_page(0x83, 255).piece(1, block));
 }
