@@ -45,7 +45,9 @@ def name(block):
 
 
 def carries_name(block):
-    return any(name(block))
+    """Word 87 counts where bits 15:14 are 01b; its bit 8 says that there is a name; and a name of zeros is none."""
+    said = word(block, 87)
+    return said >> 14 == 0b01 and bool(said & 1 << 8) and any(name(block))
 
 
 def same_drive(one, other):

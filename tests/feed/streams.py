@@ -57,6 +57,9 @@ def cases(blocks):
     unnamed = bytearray(block)
     unnamed[216:224] = bytes(8)
     yield "no-name", [bytes(unnamed[:300]), bytes(unnamed[300:])]
+    junk = bytearray(block)
+    junk[175] &= 0xFE
+    yield "no-name-but-factory-text", [bytes(junk)]
     every = bytes(range(256)) + bytes(44)
     for i in range(0, 300, 60):
         unnamed[20:40] = every[i : i + 20]

@@ -1,12 +1,17 @@
 #!/usr/bin/env python3
 """inputs.py DIR: writes the inputs of the suite into DIR, one file NAME.in each, from sections 5 and 11 of docs/RULES.md: a block is
 512 bytes, word w is its bytes 2w (bits 7:0) and 2w+1 (bits 15:8), a text has two letters a word, the first in bits 15:8;
-serial words 10-19, model words 27-46, name words 108-111. Nothing of the board is used."""
+serial words 10-19, model words 27-46, name words 108-111, which count where word 87 says so. Nothing of the board is used."""
 import glob
 import os
 import sys
 
 BLOCK = 512
+NAMED = 0x4100  # word 87 of a drive that has a name
+
+
+def put_word(block, number, value):
+    block[2 * number:2 * number + 2] = value.to_bytes(2, "little")
 
 
 def put_text(block, first, size, text, fill):
@@ -20,17 +25,16 @@ def put_text(block, first, size, text, fill):
 def put_name(block, name):
     """The name's four words, the highest first."""
     for i in range(4):
-        word = name >> (16 * (3 - i)) & 0xFFFF
-        block[2 * (108 + i)] = word & 0xFF
-        block[2 * (108 + i) + 1] = word >> 8
+        put_word(block, 108 + i, name >> (16 * (3 - i)) & 0xFFFF)
 
 
-def drive(model, serial, name=0, fill=b" ", firmware="1.0"):
+def drive(model, serial, name=0, fill=b" ", firmware="1.0", word_87=NAMED):
     block = bytearray(BLOCK)
     put_text(block, 10, 20, serial, fill)
     put_text(block, 23, 8, firmware, b" ")
     put_text(block, 27, 40, model, fill)
     put_name(block, name)
+    put_word(block, 87, word_87 if name else 0)
     return bytes(block)
 
 
@@ -38,6 +42,7 @@ def sample():
     """The three blocks of the rule book's sample."""
     blocks = [bytearray(BLOCK) for _ in range(3)]
     for block in blocks[:2]:
+        block[174:176] = bytes.fromhex("0041")
         block[216:224] = bytes.fromhex("005000C534127856")
     blocks[1][20] = 0x41
     return [bytes(block) for block in blocks]
@@ -81,6 +86,20 @@ def mixed():
     ]
 
 
+FACTORY = int.from_bytes(b"FACTORY ", "big")  # text in the place of a name
+
+
+def one_maker():
+    """Twelve drives of a maker who leaves the same factory text in the name words of all, and says in word 87 that none has a name."""
+    return [drive("PIONG DISK", "SN%04d" % bay, FACTORY, word_87=0x4000) for bay in range(12)]
+
+
+def name_words():
+    """One drive by its texts, and one by its name: whatever word 87 says but that there is a name, it is the first; then it is the second."""
+    says_none = (0x4000, 0x0000, 0x0100, 0x8100, 0xC100, 0xBFFF, 0xFFFF, 0x7EFF, 0x0041)
+    return [drive("PIONG DISK", "N1", FACTORY, word_87=word) for word in says_none + (0x4100, 0x7FFF)]
+
+
 LONG = "PIONG DISK SEVEN"  # sixteen letters
 
 INPUTS = {
@@ -107,6 +126,8 @@ INPUTS = {
     "name_decides": [drive("PIONG DISK", "N1", 0x5000C50012345678), drive("OTHER", "N2", 0x5000C50012345678)],
     "name_or_none": [drive("PIONG DISK", "N1", 0x5000C50012345678), drive("PIONG DISK", "N1"), drive("PIONG DISK", "N1", 1)],
     "names": names(),
+    "one_maker": one_maker(),
+    "name_words": name_words(),
     "firmware": [drive("PIONG DISK", "N1", firmware="1.0"), drive("PIONG DISK", "N1", firmware="2.0")],
     "model_or_serial": [drive("A", "B"), drive("B", "A"), drive("AB", ""), drive("A", "B")],
     "letter_case": [drive("Piong", "n1"), drive("PIONG", "N1"), drive("PIONG", " N1")],
