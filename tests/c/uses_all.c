@@ -47,6 +47,7 @@ static void prepare(void)
     memset(signature, 0, sizeof signature);
     memset(texts, 'T', sizeof texts);
     memcpy(block + 216, name, sizeof name);
+    block[175] = 0x41; /* word 87 says that there is a name */
 }
 
 static const uint8_t c1_page[PIONGSEUT_PAGE83_WWN_SIZE] = {0x00, 0x83, 0x00, 0x0C, 0x01, 0x03, 0x00, 0x08,
@@ -329,6 +330,9 @@ static void pages83(void)
     read = piongseut_read_page83(room, PIONGSEUT_PAGE83_WWN_SIZE + 1);
     check(read.number == PIONGSEUT_REFUSED_NOT_A_PAGE && read.form == PIONGSEUT_FORM_REFUSED && read.name[0] == 0,
           "a page with a byte behind it, 16");
+    block[175] = 0x40;
+    written = piongseut_write_page83(block, sizeof block, room, sizeof room);
+    check(written.count == PIONGSEUT_PAGE83_TEXT_SIZE && room[4] == 0x02, "name words, and word 87 says that there is no name");
     memset(block, 0, sizeof block);
     block[55] = 'M';
     block[21] = 'S';
@@ -393,7 +397,7 @@ static void refused_runs(void)
 static int took(piongseut_intake_take_answer answer, unsigned used, unsigned have)
 {
     return answer.number == PIONGSEUT_ACCEPTED && answer.used == used && answer.next.have == have &&
-           answer.complete == (have == PIONGSEUT_BLOCK_SIZE) && answer.next.sum == 0x29;
+           answer.complete == (have == PIONGSEUT_BLOCK_SIZE) && answer.next.sum == 0x6A;
 }
 
 /* C1's block and four bytes behind it, in three runs of which one has no bytes. Back: the intake, which is complete then. */

@@ -43,6 +43,8 @@ static void put_text(uint8_t *block, size_t word, size_t size, const char *text)
 /* Written from docs/RULES.md 5 once more and not shared with tools/identify.py: readings of a block that share nothing judge each other. */
 static void put_name(uint8_t *block, unsigned long long name)
 {
+    block[2 * 87] = 0x00;
+    block[2 * 87 + 1] = 0x41;
     for (size_t i = 0; i < 4; i++) {
         block[2 * (108 + i)] = (uint8_t)(name >> (48 - 16 * i));
         block[2 * (108 + i) + 1] = (uint8_t)(name >> (56 - 16 * i));
