@@ -96,13 +96,9 @@ module _ (a b : List ℕ) where
   OneText = (carriesName a ≡ false) × (carriesName b ≡ false) × (spaced (model a) ≡ spaced (model b)) × (spaced (serial a) ≡ spaced (serial b))
 
   -- Given who carries a name, what is left to compare.
-  pub both-named : carriesName a ≡ true → carriesName b ≡ true → sameDrive a b ≡ equal (name a) (name b)
+  pub first-named : carriesName a ≡ true → sameDrive a b ≡ (carriesName b && equal (name a) (name b))
   unfolding sameDrive
-  both-named p q = rw (p, q, or-false)
-
-  pub one-named : carriesName a ≡ true → carriesName b ≡ false → sameDrive a b ≡ false
-  unfolding sameDrive
-  one-named p q = rw (p, q)
+  first-named p = rw (p, or-false)
 
   pub other-named : carriesName a ≡ false → carriesName b ≡ true → sameDrive a b ≡ false
   unfolding sameDrive

@@ -73,10 +73,7 @@ pub fn some_bit(bytes: &[u8]) -> bool
 fn says_named(w: u16) -> bool
     ensures { λ r. ⌜ r ≡ saysNamed w ⌝ }
 {
-    if w / 16384 % 4 != 1 {
-        return false;
-    }
-    w / 256 % 2 == 1
+    (w / 16384 % 4 == 1) & (w / 256 % 2 == 1)
 }
 
 // Whether a block carries a world wide name.
@@ -84,8 +81,8 @@ pub fn carries_name(block: &[u8]) -> bool
     requires { ⌜ length (now block) ≡ 512 ⌝ }
     ensures { λ r. ⌜ r ≡ carriesName (now (block .entry)) ⌝ }
 {
-    if says_named(word(block, 87)) {
-        return some_bit(name(block));
+    if some_bit(name(block)) {
+        return says_named(rules::pair(block[175], block[174]));
     }
     false
 }
@@ -131,14 +128,15 @@ fn same_texts(a: &[u8], b: &[u8]) -> bool
     false
 }
 
-// Whether two blocks are of the same drive.
+// Whether two blocks are of the same drive. Two names nearly always differ, so that only one of the blocks is asked whether it
+// carries one.
 pub fn same_drive(a: &[u8], b: &[u8]) -> bool
     requires { ⌜ (length (now a) ≡ 512) × (length (now b) ≡ 512) ⌝ }
     ensures { λ r. ⌜ r ≡ sameDrive (now (a .entry)) (now (b .entry)) ⌝ }
 {
     if carries_name(a) {
-        if carries_name(b) {
-            return same_name(a, b);
+        if same_name(a, b) {
+            return carries_name(b);
         }
         return false;
     }
