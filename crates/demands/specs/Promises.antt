@@ -207,8 +207,9 @@ AcceptedIsWritten = (page : List ℕ) → read page .number ≡ 0 → (block : L
 
 -- ## Demand 3
 
--- What it is to be the same drive, over the IDENTIFY words: of two blocks of 512 bytes, both have words 108 to 111 that are not all
--- zero, and they are equal; or these words are all zero in both, and model and serial number are equal with zero bytes as spaces.
+-- What it is to be the same drive, over the IDENTIFY words: of two blocks of 512 bytes, word 87 says in both that there is a name, and
+-- words 108 to 111 are not all zero and are equal; or in neither is there such a name, and model and serial number are equal with
+-- zero bytes as spaces.
 abbrev pub SameDriveByWords : Type 0
 SameDriveByWords = (a b : List ℕ) → Bytes a → Bytes b → length a ≡ 512 → length b ≡ 512 → (sameDrive a b ≡ true) ↔ (NameInWords a b ⊎ TextsInWords a b)
 
