@@ -12,9 +12,11 @@ use borrow.Author.Tests.{eq-eqb, ne-eqb, le-ltb, leb-true, leb-false}
 use Rattle.rules.specs.Bits.{flag}
 use Rattle.room.specs.Room.{written}
 use Rattle.room.proofs.Laws.{length-written, written-append, written-front}
-use Rattle.intake.specs.Intake.{intake, wrongIntake, sumOf, usedBy, after, used, taken, blockOf}
+use Rattle.checksum.specs.Checksum.{sumOf}
+use Rattle.checksum.proofs.Laws.{sum-append}
+use Rattle.intake.specs.Intake.{intake, wrongIntake, usedBy, after, used, taken, blockOf}
 use Rattle.intake.specs.Stream.{Held, begin, step, runs, stream}
-use Rattle.intake.proofs.Laws.{sum-append, take-join}
+use Rattle.intake.proofs.Laws.{take-join}
 
 -- What every run leaves true.
 pub record Sound (held : Held) : Type 0 where

@@ -1,11 +1,12 @@
 -- An intake of IDENTIFY data off the wire, and what a run of bytes does to it (RULES 12).
 use mathlib.Core.Bool.{Bool, cond, _||_, not}
-use mathlib.Core.List.{List, [], _∷_}
+use mathlib.Core.List.{List, []}
 use Prim.Native.Nat.{ℕ, _+_, _-_, _%_}
 use lib.Dec.{eqb, ltb}
 use lib.ListN.{length, take}
 use Rattle.rules.specs.Bits.{flag}
 use Rattle.room.specs.Room.{written}
+use Rattle.checksum.specs.Checksum.{sumOf}
 use Rattle.intake.specs.declared.Intake.{Intake}
 use Rattle.intake.specs.declared.Offered.{Offered}
 use Rattle.intake.specs.declared.Took.{Took}
@@ -19,11 +20,6 @@ empty = intake 0 0
 -- 1: a store that is not of 512 bytes, or an intake that claims more than 512.
 abbrev pub wrongIntake : ℕ → ℕ → Bool
 wrongIntake have store = not (eqb store 512) || ltb 512 have
-
--- The sum of the bytes.
-unfoldable pub sumOf : List ℕ → ℕ
-sumOf [] = 0
-sumOf (byte ∷ bytes) = byte + sumOf bytes
 
 -- The bytes of a run that it uses: as many as it lacks, and so none once it is complete.
 abbrev pub usedBy : ℕ → List ℕ → List ℕ

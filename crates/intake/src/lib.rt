@@ -5,7 +5,8 @@ ghost use mathlib.Core.Bool.{false};
 ghost use mathlib.Core.List.{List};
 ghost use Prim.Native.Nat.{_+_, _%_};
 ghost use lib.ListN.{length};
-ghost use Rattle.intake.specs.Intake.{empty as Intake·empty, wrongIntake, sumOf, answer, outcome, taken, blockOf, offered as Intake·offered};
+ghost use Rattle.checksum.specs.Checksum.{sumOf};
+ghost use Rattle.intake.specs.Intake.{empty as Intake·empty, wrongIntake, answer, outcome, taken, blockOf, offered as Intake·offered};
 
 // What an intake has: how many bytes, in the front of its store, and their sum modulo 256.
 #[repr(C)]
@@ -38,24 +39,11 @@ pub fn wrong(intake: Intake, store: usize) -> bool
     (store != 512) | (512 < intake.have)
 }
 
-// The sum of bytes, modulo 256.
-fn total(bytes: &[u8]) -> u8
-    ensures { λ r. ⌜ r ≡ sumOf (now (bytes .entry)) % 256 ⌝ }
-{
-    let mut sum: u8 = 0;
-    let mut i = 0;
-    while i < bytes.len() {
-        sum = std::num::wrapping_add_u8(sum, bytes[i]);
-        i += 1;
-    }
-    sum
-}
-
 // A sum modulo 256, counted on over more bytes.
 fn carried(sum: u16, bytes: &[u8]) -> u16
     ensures { λ r. ⌜ r ≡ (sum + sumOf (now (bytes .entry))) % 256 ⌝ }
 {
-    (sum % 256 + total(bytes) as u16) % 256
+    (sum % 256 + checksum::total(bytes) as u16) % 256
 }
 
 // Takes a run: as many of its bytes as the intake lacks, behind those that it has.

@@ -3,9 +3,9 @@ use Prim.Native.Nat.{_-_}
 use native.Mathlib.Omega.{arith}
 use lib.ListN.{length}
 use borrow.Author.Needs.{needs}
-use Rattle.intake.proofs.Laws.{Summing, none-yet, more, all-summed}
-use Rattle.intake.proofs.total.Statement.{statement}
-use Rattle.intake.proofs.total.Tie as tie
+use Rattle.checksum.proofs.Laws.{Summing, none-yet, more, all-summed}
+use Rattle.checksum.proofs.total.Statement.{statement}
+use Rattle.checksum.proofs.total.Tie as tie
 
 abbrev Inv-loop : tie.InvT-loop
 Inv-loop bytes sum₀ i₀ sum i = Summing bytes sum i

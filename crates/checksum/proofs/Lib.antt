@@ -1,0 +1,2 @@
+-- The laws of sums.
+pub mod Laws

@@ -1,0 +1,2 @@
+-- The sum of a block's bytes, and which blocks are damaged.
+pub mod Checksum
