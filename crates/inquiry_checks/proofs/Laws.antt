@@ -58,11 +58,11 @@ roomy q sense e =
 module _ (q : Request) (room sense : ℕ) where
   pub refused-early : (earlyRefusal q sense ≡ 0 → ⊥) → refusalOf q room sense ≡ earlyRefusal q sense
   unfolding refusalOf earlyRefusal
-  refused-early = first-answers (take 8 (checks q room sense)) (drop 8 (checks q room sense)) refl
+  refused-early = first-answers (take 9 (checks q room sense)) (drop 9 (checks q room sense)) refl
 
   pub refused-late : earlyRefusal q sense ≡ 0 → refusalOf q room sense ≡ cond (not (passesThrough (isPacket q) (q .command)) && ltb room (toWrite q)) 8 0
   unfolding refusalOf earlyRefusal
-  refused-late = second-answers (take 8 (checks q room sense)) (drop 8 (checks q room sense)) refl
+  refused-late = second-answers (take 9 (checks q room sense)) (drop 9 (checks q room sense)) refl
 
   pub accepted-early : refusalOf q room sense ≡ 0 → earlyRefusal q sense ≡ 0
   accepted-early z = by (eqb (earlyRefusal q sense) 0) refl
@@ -99,9 +99,9 @@ pub record Granted (q : Request) : Type 0 where
 pub granted : (q : Request) (sense : ℕ) → earlyRefusal q sense ≡ 0 → Granted q
 unfolding earlyRefusal
 granted q sense e =
-    let c = silent (take 8 (checks q 0 sense)) refl e in
+    let c = silent (take 9 (checks q 0 sense)) refl e in
     let s = sized (q .block) (q .signature) (q .texts) sense (c .0) in
-    let short = c .1 .1 .1 in
+    let short = c .1 .1 .1 .1 in
     let list = short .1 .1 .1 in
     record {
       servable = λ h.

@@ -5,6 +5,7 @@ use Prim.Native.Nat.{ℕ}
 use lib.Dec.{eqb, ltb}
 use lib.ListN.{length, getD}
 use Rattle.rules.specs.First.{Check, _when_, first}
+use Rattle.checksum.specs.Checksum.{damaged}
 use Rattle.packet.specs.Packet.{unusable}
 use Rattle.inquiry_fields.specs.Fields.{evpd, cmddt, pageCode, naca}
 use Rattle.inquiry_checks.specs.Request.{Request, isPacket, passesThrough}
@@ -44,6 +45,7 @@ noList packet command reply =
 abbrev pub checks : Request → ℕ → ℕ → List Check
 checks q room sense =
     (1 when wrongSize (q .block) (q .signature) (q .texts) sense)
+    ∷ (18 when damaged (q .block))
     ∷ (2 when eqb (length (q .command)) 0)
     ∷ (3 when not (eqb (getD (q .command) 0 0) 0x12))
     ∷ (2 when ltb (length (q .command)) 6)

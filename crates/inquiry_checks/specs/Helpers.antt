@@ -30,7 +30,7 @@ fromBlock packet command =
 
 -- All checks but the last, which alone looks at the room.
 unfoldable pub earlyRefusal : Request → ℕ → ℕ
-earlyRefusal q sense = first (take 8 (checks q 0 sense))
+earlyRefusal q sense = first (take 9 (checks q 0 sense))
 
 -- What writing the page takes for granted, once the checks have passed.
 pub record Servable (q : Request) : Type 0 where

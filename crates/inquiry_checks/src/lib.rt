@@ -192,6 +192,9 @@ pub fn fault(
     if wrong_size(block, signature, texts, sense) {
         return 1;
     }
+    if checksum::damaged(block) {
+        return 18;
+    }
     if command.len() == 0 {
         return 2;
     }

@@ -30,7 +30,7 @@ pub record Row : Type 0 where
 abbrev pub row : ℕ → ℕ → ℕ → ℕ → Row
 row status key asc ascq = record { status = status; key = key; asc = asc; ascq = ascq }
 
--- A row for each number from 0 to 16. Number 0 is no refusal, and answers nothing here.
+-- A row for each number from 0 to 18. Number 0 is no refusal, and answers nothing here.
 abbrev pub table : List Row
 table =
     row noStatus 0x00 0x00 0x00
@@ -65,6 +65,10 @@ table =
     -- 15: completion while nothing is pending
     ∷ row noStatus 0x00 0x00 0x00
     -- 16: a page 83h that the writer makes for no block
+    ∷ row noStatus 0x00 0x00 0x00
+    -- 17: no entry gives it
+    ∷ row noStatus 0x00 0x00 0x00
+    -- 18: a damaged block
     ∷ row noStatus 0x00 0x00 0x00
     ∷ []
 

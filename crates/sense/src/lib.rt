@@ -18,7 +18,8 @@ pub const BUSY: u8 = 0x08;
 // No status: a number that SCSI gives to none.
 pub const NONE: u8 = 0xFF;
 
-// Key, ASC and ASCQ of each refusal, by its number; key 0 where a refusal has none.
+// Key, ASC and ASCQ of each refusal, by its number; key 0 where a refusal has none, as all have from 15 on, so that the numbers
+// above 16 need no bytes here.
 const TABLE: [[u8; 3]; 17] = [
     [0x00, 0x00, 0x00],
     [0x00, 0x00, 0x00],
@@ -48,7 +49,7 @@ fn put_code(sense: &mut [u8], key: u8, asc: u8, ascq: u8)
     room::copy(sense, 0, &bytes, 8);
 }
 
-// Key, ASC and ASCQ of a refusal, and zeros for a number that has no row.
+// Key, ASC and ASCQ of a refusal, and zeros for a number past the array.
 fn code(number: u8) -> [u8; 3]
     ensures { λ r. ⌜ r ≡ threeBytes (rowOf number) ⌝ }
 {

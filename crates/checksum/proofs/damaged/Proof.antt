@@ -2,7 +2,7 @@
 use mathlib.Core.Path.{_≡_, sym}
 use Prim.Native.Nat.{_%_}
 use native.Mathlib.Omega.{arith}
-use lib.ListN.{take}
+use lib.ListN.{getD, take}
 use lib.Seq.{take-all, length-take-le}
 use borrow.Author.Tests.{eq-eqb, ne-eqb}
 use borrow.Author.Needs.{needs}
@@ -19,7 +19,9 @@ shared-slice-read-if2 c = search needs
 
 returns-2 : tie.Need-returns-2
 unfolding damaged damagedBy
-returns-2 c = rw (eq-eqb _ _ (c .before .before .if1 .left), ne-eqb _ _ (c .if2 .taken))
+returns-2 c =
+    let byte = getD (c .before .before .before .before .args .block .now) 510 0 in
+    rw (eq-eqb _ _ (c .before .before .if1 .left), ne-eqb byte 0xA5 (λ e. absurd (omega (arith, e, c .if2 .taken))))
 
 slice-aggregate-total : tie.Need-slice-aggregate-total
 slice-aggregate-total c = sym (length-take-le _ (c .before .before .before .before .before .args .block .now) (omega (arith, c .before .before .before .if1 .left)))
@@ -34,7 +36,7 @@ returns-3 c =
     let size = c .before .before .before .before .if1 .left in
     let all : take 512 block ≡ block = take-all 512 block (omega (arith, size)) in
     let sum : c .total .result ≡ sumOf block % 256 = rw all at (c .total .ensures) in
-    rw (eq-eqb _ _ size, eq-eqb _ _ (c .before .before .if2 .left), sum)
+    rw (eq-eqb _ _ size, eq-eqb (getD block 510 0) 0xA5 (omega (arith, c .before .before .if2 .left)), sum)
 
 pub damaged-spec : {M : Type 1} → statement M
 damaged-spec = tie.close (tie.spec returns shared-slice-read-if2 returns-2 slice-aggregate-total total-requires returns-3)
