@@ -1,11 +1,12 @@
--- Laws of sums.
-use mathlib.Core.Path.{_≡_, ap, _∙_}
+-- Laws of sums, and of runs of blocks.
+use mathlib.Core.Path.{_≡_, refl, ap, sym, _∙_}
+use mathlib.Core.Bool.{Bool, _||_, or-assoc, or-false}
 use mathlib.Core.List.{List, [], _∷_, _++_}
 use Prim.Native.Nat.{ℕ, suc, _+_, _%_, _≤_, _<_}
 use native.Mathlib.Omega.{arith}
 use lib.ListN.{length, getD, drop, drop-of-length-le}
 use lib.Seq.{drop-cons}
-use Rattle.checksum.specs.Checksum.{sumOf}
+use Rattle.checksum.specs.Checksum.{sumOf, damaged, anyDamaged}
 
 pub sum-append : (a b : List ℕ) → sumOf (a ++ b) ≡ sumOf a + sumOf b
 unfolding sumOf
@@ -33,3 +34,14 @@ unfolding sumOf
 all-summed {bytes} {sum} {i} s h =
     let d : (sum + 0) % 256 ≡ sumOf bytes % 256 = rw (drop-of-length-le bytes {i = i} h) at (s .left) in
     omega (arith, d, s .small)
+
+-- Damaged in a run that goes on: in the run, or in what is put behind it.
+pub damaged-append : (a b : List (List ℕ)) → anyDamaged (a ++ b) ≡ (anyDamaged a || anyDamaged b)
+unfolding anyDamaged
+damaged-append [] b = refl
+damaged-append (x ∷ a) b = ap (λ (t : Bool). damaged x || t) (damaged-append a b) ∙ sym (or-assoc (damaged x) (anyDamaged a) (anyDamaged b))
+
+-- With one block more.
+pub damaged-more : (a : List (List ℕ)) (x : List ℕ) → anyDamaged (a ++ (x ∷ [])) ≡ (anyDamaged a || damaged x)
+unfolding anyDamaged
+damaged-more a x = damaged-append a (x ∷ []) ∙ ap (λ (t : Bool). anyDamaged a || t) (or-false (damaged x))

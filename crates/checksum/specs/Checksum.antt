@@ -1,5 +1,5 @@
 -- The sum of an IDENTIFY block's bytes, and which blocks are damaged (RULES 5).
-use mathlib.Core.Bool.{Bool, _&&_, not}
+use mathlib.Core.Bool.{Bool, false, _&&_, _||_, not}
 use mathlib.Core.List.{List, [], _∷_}
 use Prim.Native.Nat.{ℕ, _+_, _%_}
 use lib.Dec.{eqb}
@@ -18,3 +18,8 @@ damagedBy sum block = eqb (length block) 512 && eqb (getD block 510 0) 0xA5 && n
 -- A damaged block, by its own sum.
 unfoldable pub damaged : List ℕ → Bool
 damaged block = damagedBy (sumOf block) block
+
+-- Some block of a run is damaged.
+unfoldable pub anyDamaged : List (List ℕ) → Bool
+anyDamaged [] = false
+anyDamaged (block ∷ blocks) = damaged block || anyDamaged blocks

@@ -7,6 +7,7 @@ use native.Mathlib.Omega.{arith}
 use lib.ListN.{length, length-append}
 use borrow.Author.Tests.{eq-eqb, lt-ltb, le-ltb}
 use Rattle.room.specs.Room.{written}
+use Rattle.checksum.specs.Checksum.{damaged}
 use Rattle.identify.specs.Block.{serial, model, name}
 use Rattle.texts.specs.Text.{turned, spaced}
 use Rattle.identify.specs.Drive.{carriesName}
@@ -47,12 +48,12 @@ page-sizes block h = by (carriesName block) refl
     by true e = length-named block h e
     by false e = length-unnamed block h e
 
--- The writer, by how much room there is for a page of n bytes.
-module _ (block room : List ℕ) (h : length block ≡ 512) {n : ℕ} (l : length (page83 block) ≡ n) where
+-- The writer of a block that is not damaged, by how much room there is for a page of n bytes.
+module _ (block room : List ℕ) (h : length block ≡ 512) (d : damaged block ≡ false) {n : ℕ} (l : length (page83 block) ≡ n) where
   pub too-little : length room < n → write block room ≡ outcome (record { number = 8; count = 0 }) room
   unfolding refusalOf write
-  too-little s = rw (eq-eqb _ _ h, l, lt-ltb _ _ s)
+  too-little s = rw (eq-eqb _ _ h, d, l, lt-ltb _ _ s)
 
   pub enough : n ≤ length room → write block room ≡ outcome (record { number = 0; count = n }) (written room 0 (page83 block))
   unfolding refusalOf write
-  enough s = rw (eq-eqb _ _ h, l, le-ltb _ _ s)
+  enough s = rw (eq-eqb _ _ h, d, l, le-ltb _ _ s)

@@ -6,6 +6,7 @@ use lib.Dec.{eqb, ltb}
 use lib.ListN.{length}
 use Rattle.rules.specs.First.{Check, _when_, first}
 use Rattle.room.specs.Room.{written}
+use Rattle.checksum.specs.Checksum.{damaged}
 use Rattle.identify.specs.Block.{serial, model, name}
 use Rattle.texts.specs.Text.{turned, spaced}
 use Rattle.identify.specs.Drive.{carriesName}
@@ -29,10 +30,12 @@ page83 block =
     cond (carriesName block) (namePage (turned (name block)))
     (textPage (spaced (turned (model block))) (spaced (turned (serial block))))
 
--- The writer, for whoever has a block and room: 1 where the block is not 512 bytes, 8 where the room is shorter than the page.
+-- The writer, for whoever has a block and room: 1 where the block is not 512 bytes, 18 where it is damaged, 8 where the room is
+-- shorter than the page.
 abbrev pub checks : List ℕ → ℕ → List Check
 checks block room =
     (1 when not (eqb (length block) 512))
+    ∷ (18 when damaged block)
     ∷ (8 when ltb room (length (page83 block)))
     ∷ []
 

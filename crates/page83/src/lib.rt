@@ -123,6 +123,9 @@ pub fn write(block: &[u8], room: &mut [u8]) -> Written
     if block.len() != 512 {
         return wrote(1, 0);
     }
+    if checksum::damaged(block) {
+        return wrote(18, 0);
+    }
     if identify::carries_name(block) {
         if room.len() < 16 {
             return wrote(8, 0);
