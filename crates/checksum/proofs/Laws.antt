@@ -1,8 +1,9 @@
 -- Laws of sums, and of runs of blocks.
 use mathlib.Core.Path.{_≡_, refl, ap, sym, _∙_}
-use mathlib.Core.Bool.{Bool, _||_, or-assoc, or-false}
+use mathlib.Core.Bool.{Bool, true, _||_, or-assoc, or-false, or-true}
 use mathlib.Core.List.{List, [], _∷_, _++_}
-use Prim.Native.Nat.{ℕ, suc, _+_, _%_, _≤_, _<_}
+use Prim.Native.Nat.{ℕ, zero, suc, _+_, _%_, _≤_, _<_}
+use native.Mathlib.Nat.{le-of-suc-le-suc, not-suc-le-zero}
 use native.Mathlib.Omega.{arith}
 use lib.ListN.{length, getD, drop, drop-of-length-le}
 use lib.Seq.{drop-cons}
@@ -45,3 +46,10 @@ damaged-append (x ∷ a) b = ap (λ (t : Bool). damaged x || t) (damaged-append 
 pub damaged-more : (a : List (List ℕ)) (x : List ℕ) → anyDamaged (a ++ (x ∷ [])) ≡ (anyDamaged a || damaged x)
 unfolding anyDamaged
 damaged-more a x = damaged-append a (x ∷ []) ∙ ap (λ (t : Bool). anyDamaged a || t) (or-false (damaged x))
+
+-- One of them suffices.
+pub damaged-at : (run : List (List ℕ)) (k : ℕ) → k < length run → damaged (getD run k []) ≡ true → anyDamaged run ≡ true
+unfolding anyDamaged
+damaged-at [] k h e = absurd (not-suc-le-zero h)
+damaged-at (x ∷ run) zero h e = rw e
+damaged-at (x ∷ run) (suc k) h e = rw (damaged-at run k (le-of-suc-le-suc h) e, or-true)

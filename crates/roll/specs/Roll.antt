@@ -6,6 +6,7 @@ use lib.Dec.{eqb, ltb}
 use lib.ListN.{length, take, drop}
 use Rattle.rules.specs.First.{Check, _when_, first}
 use Rattle.room.specs.Room.{written}
+use Rattle.checksum.specs.Checksum.{anyDamaged}
 use Rattle.identify.specs.Drive.{sameDrive}
 use Rattle.roll.specs.declared.Counted.{Counted}
 
@@ -46,12 +47,13 @@ rowIn (drive ∷ rest) block = cond (sameDrive drive block) 1 (suc (rowIn rest b
 abbrev pub rows : List (List ℕ) → List ℕ
 rows run = map (rowIn (drives run)) run
 
--- 1: bytes that are no whole number of blocks, more than 64 blocks, or fewer entries of room than blocks.
+-- 1: bytes that are no whole number of blocks, more than 64 blocks, or fewer entries of room than blocks. 18: some block is damaged.
 abbrev pub checks : List ℕ → ℕ → List Check
 checks bytes room =
     (1 when not (eqb (length bytes % 512) 0))
     ∷ (1 when ltb 32768 (length bytes))
     ∷ (1 when ltb room (length bytes / 512))
+    ∷ (18 when anyDamaged (blocks bytes))
     ∷ []
 
 unfoldable pub refusalOf : List ℕ → ℕ → ℕ

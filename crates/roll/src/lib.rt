@@ -4,7 +4,8 @@ ghost use mathlib.Core.Path.{_≡_};
 ghost use mathlib.Core.List.{List};
 ghost use Prim.Native.Nat.{ℕ, _+_, _*_, _≤_, _<_};
 ghost use lib.ListN.{length, getD, take, drop};
-ghost use Rattle.roll.specs.Roll.{outcome, roll as Roll·roll};
+ghost use Rattle.checksum.specs.Checksum.{anyDamaged};
+ghost use Rattle.roll.specs.Roll.{blocksIn, outcome, roll as Roll·roll};
 ghost use Rattle.roll.specs.Helpers.{Found, Rolled, nextRow};
 
 // What comes back: the refusal's number or 0, how many blocks there are, and how many drives.
@@ -79,19 +80,37 @@ fn put_rows(bytes: &[u8], count: usize, rows: &mut [u16]) -> u16
     drives
 }
 
+// Whether some block of a run is damaged.
+fn any_damaged(bytes: &[u8], count: usize) -> bool
+    requires { ⌜ 512 * count ≤ length (now bytes) ⌝ }
+    ensures { λ r. ⌜ r ≡ anyDamaged (blocksIn count (now (bytes .entry))) ⌝ }
+{
+    let mut asked = 0;
+    while asked < count {
+        if checksum::damaged(block_at(bytes, asked)) {
+            return true;
+        }
+        asked += 1;
+    }
+    false
+}
+
 // The roll of a run of blocks.
 pub fn roll(bytes: &[u8], rows: &mut [u16]) -> Counted
     ensures { λ r. ⌜ outcome r (now (rows .exit)) ≡ Roll·roll (now (bytes .entry)) (now (rows .entry)) ⌝ }
 {
     if bytes.len() % 512 != 0 {
-        return refused();
+        return refused(1);
     }
     if 32768 < bytes.len() {
-        return refused();
+        return refused(1);
     }
     let count = bytes.len() / 512;
     if rows.len() < count {
-        return refused();
+        return refused(1);
+    }
+    if any_damaged(bytes, count) {
+        return refused(18);
     }
     let drives = put_rows(bytes, count, rows);
     Counted {
@@ -101,11 +120,11 @@ pub fn roll(bytes: &[u8], rows: &mut [u16]) -> Counted
     }
 }
 
-fn refused() -> Counted
-    ensures { λ r. ⌜ r ≡ record { number = 1; blocks = 0; drives = 0 } ⌝ }
+fn refused(number: u8) -> Counted
+    ensures { λ r. ⌜ r ≡ record { number = number; blocks = 0; drives = 0 } ⌝ }
 {
     Counted {
-        number: 1,
+        number,
         blocks: 0,
         drives: 0,
     }

@@ -1,4 +1,5 @@
 -- `roll`: the checks in order, then the rows of all blocks.
+use mathlib.Core.Path.{_∙_, sym}
 use borrow.Author.Tests.{eq-eqb, ne-eqb, lt-ltb, le-ltb}
 use Rattle.roll.specs.Roll.{refusalOf, roll}
 use borrow.Author.Needs.{needs}
@@ -26,18 +27,28 @@ returns-3 : tie.Need-returns-3
 unfolding refusalOf roll
 returns-3 c = rw (eq-eqb _ _ (c .before .before .before .if1 .left), le-ltb _ _ (c .before .before .if2 .left), lt-ltb _ _ (c .before .if3 .taken), c .refused3 .ensures)
 
+any-damaged-requires : tie.Need-any-damaged-requires
+any-damaged-requires c κs = search needs
+
+refused-requires-4 : tie.Need-refused-requires-4
+refused-requires-4 c κs = search needs
+
+returns-4 : tie.Need-returns-4
+unfolding refusalOf roll
+returns-4 c = rw (eq-eqb _ _ (c .before .before .before .before .before .if1 .left), le-ltb _ _ (c .before .before .before .before .if2 .left), le-ltb _ _ (c .before .before .before .if3 .left), sym (c .before .before .any-damaged .ensures) ∙ c .before .if4 .taken, c .refused4 .ensures)
+
 put-rows-requires : tie.Need-put-rows-requires
 put-rows-requires c κs = search needs
 
-cast-t10 : tie.Need-cast-t10
-cast-t10 c = search needs
+cast-t11 : tie.Need-cast-t11
+cast-t11 c = search needs
 
 same-length : tie.Need-same-length
 same-length c = search needs
 
-returns-4 : tie.Need-returns-4
+returns-5 : tie.Need-returns-5
 unfolding refusalOf roll
-returns-4 c = rw (eq-eqb _ _ (c .before .before .before .before .before .before .if1 .left), le-ltb _ _ (c .before .before .before .before .before .if2 .left), le-ltb _ _ (c .before .before .before .before .if3 .left), c .before .before .put-rows .ensures .room, c .before .before .put-rows .ensures .drives)
+returns-5 c = rw (eq-eqb _ _ (c .before .before .before .before .before .before .before .before .if1 .left), le-ltb _ _ (c .before .before .before .before .before .before .before .if2 .left), le-ltb _ _ (c .before .before .before .before .before .before .if3 .left), sym (c .before .before .before .before .before .any-damaged .ensures) ∙ c .before .before .before .before .if4 .left, c .before .before .put-rows .ensures .room, c .before .before .put-rows .ensures .drives)
 
 pub roll-spec : {M : Type 1} → statement M
 roll-spec =
@@ -49,7 +60,10 @@ roll-spec =
     returns-2
     refused-requires-3
     returns-3
+    any-damaged-requires
+    refused-requires-4
+    returns-4
     put-rows-requires
-    cast-t10
+    cast-t11
     same-length
-    returns-4)
+    returns-5)
