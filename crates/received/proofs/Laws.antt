@@ -3,18 +3,21 @@ use mathlib.Core.Path.{_≡_, refl, sym, ap, _∙_}
 use mathlib.Core.Bool.{Bool, true, false, cond, _||_, not}
 use mathlib.Core.List.{List, [], _∷_, _++_}
 use Prim.Native.Nat.{ℕ, zero, suc, _+_, _-_, _*_, _/_, _%_, _≤_, _<_}
+use native.Mathlib.Nat.{zero-add}
 use native.Mathlib.Omega.{arith}
 use lib.Dec.{eqb, ltb}
 use lib.ListN.{length, getD, take, drop, length-take, length-drop, length-append, drop-of-length-le}
-use lib.Seq.{drop-cons, drop-drop}
+use lib.Seq.{drop-cons, drop-drop, take-at, drop-at}
 use borrow.Author.Tests.{eqb-true, lt-ltb, le-ltb, ltb-true, ltb-false, not-false}
 use Rattle.rules.proofs.First.{neither}
 use Rattle.room.specs.Room.{written, Wrote}
 use Rattle.room.proofs.Laws.{written-append, length-written}
+use Rattle.checksum.specs.Checksum.{damaged, damagedBy, anyDamaged}
 use Rattle.intake.specs.Intake.{wrongIntake, complete, blockOf}
 use Rattle.roll.specs.Roll as Roll
+use Rattle.roll.specs.Roll.{blocksIn}
 use Rattle.received.specs.Received.{claimsTooMuch, gathered, wrongRun, gatherRefusal, gatherOutcome, given, gatherOf, refusalOf, Outcome, outcome, rolled, rollOf}
-use Rattle.received.specs.Helpers.{completeIn}
+use Rattle.received.specs.Helpers.{completeIn, damagedIn}
 
 -- Each complete intake gives 512 bytes.
 pub length-gathered : (haves stores : List ℕ) → length stores ≡ 512 * length haves → length (gathered haves stores) ≡ 512 * completeIn haves
@@ -36,15 +39,41 @@ block-at-most have store h = by (complete have)
     by true = omega (arith, h)
     by false = omega arith
 
--- The roll refuses what is gathered exactly where there are too many blocks, or too few rows for them.
-pub roll-refuses : (haves stores : List ℕ) (rows : ℕ) → length stores ≡ 512 * length haves → Roll.refusalOf (gathered haves stores) rows ≡ cond (ltb 64 (completeIn haves)) 1 (cond (ltb rows (completeIn haves)) 1 0)
+-- A block in front of others, and no block.
+a-block : (block rest : List ℕ) (n : ℕ) → length block ≡ 512 → anyDamaged (blocksIn (1 + n) (block ++ rest)) ≡ (damaged block || anyDamaged (blocksIn n rest))
+unfolding blocksIn anyDamaged
+a-block block rest n h =
+    let e : 1 + n ≡ suc n = omega arith in
+    rw (e, take-at block rest 512 h, drop-at block rest 512 h)
+
+none : damaged [] ≡ false
+unfolding damaged damagedBy
+none = refl
+
+-- One of the blocks that are gathered is damaged exactly where some intake's is: an intake that is not complete gives none.
+pub damaged-gathered : (haves stores : List ℕ) → length stores ≡ 512 * length haves → anyDamaged (blocksIn (completeIn haves) (gathered haves stores)) ≡ damagedIn haves stores
+unfolding gathered completeIn damagedIn blocksIn anyDamaged
+damaged-gathered [] stores h = refl
+damaged-gathered (have ∷ haves) stores h =
+    one (complete have) (damaged-gathered haves (drop 512 stores) (rw length-drop (omega (arith, h))))
+  where
+    first : length (take 512 stores) ≡ 512
+    first = rw length-take (omega (arith, h))
+
+    one : (b : Bool) → anyDamaged (blocksIn (completeIn haves) (gathered haves (drop 512 stores))) ≡ damagedIn haves (drop 512 stores)
+        → anyDamaged (blocksIn (cond b 1 0 + completeIn haves) (cond b (take 512 stores) [] ++ gathered haves (drop 512 stores))) ≡ (damaged (cond b (take 512 stores) []) || damagedIn haves (drop 512 stores))
+    one true e = a-block (take 512 stores) (gathered haves (drop 512 stores)) (completeIn haves) first ∙ ap (λ (t : Bool). damaged (take 512 stores) || t) e
+    one false e = rw (zero-add (completeIn haves), none) e
+
+-- The roll refuses what is gathered exactly where there are too many blocks, too few rows for them, or a damaged one.
+pub roll-refuses : (haves stores : List ℕ) (rows : ℕ) → length stores ≡ 512 * length haves → Roll.refusalOf (gathered haves stores) rows ≡ cond (ltb 64 (completeIn haves)) 1 (cond (ltb rows (completeIn haves)) 1 (cond (damagedIn haves stores) 18 0))
 unfolding Roll.refusalOf
 roll-refuses haves stores rows h =
     let n = completeIn haves in
     let l = length-gathered haves stores h in
     let whole : 512 * n % 512 ≡ 0 = omega arith in
     let count : 512 * n / 512 ≡ n = omega arith in
-    rw (l, whole, count, many n)
+    rw (l, whole, count, many n, damaged-gathered haves stores h)
   where
     many : (n : ℕ) → ltb 32768 (512 * n) ≡ ltb 64 n
     many n = by (ltb 64 n) refl
@@ -67,6 +96,22 @@ look-on {haves} {i} l h =
 pub none-left : {haves : List ℕ} {i : ℕ} → Looking haves i → length haves ≤ i → false ≡ claimsTooMuch haves
 unfolding claimsTooMuch
 none-left {haves} {i} l h = rw (drop-of-length-le haves {i = i} h) at (l .left)
+
+-- The same of a damaged block.
+pub record Asking (haves stores : List ℕ) (k : ℕ) : Type 0 where
+  pub upto : k ≤ length haves
+  pub left : damagedIn (drop k haves) (drop (512 * k) stores) ≡ damagedIn haves stores
+
+pub ask-on : {haves stores : List ℕ} {k : ℕ} → Asking haves stores k → k < length haves → (damaged (blockOf (getD haves k 0) (take 512 (drop (512 * k) stores))) || damagedIn (drop (k + 1) haves) (drop (512 * (k + 1)) stores)) ≡ damagedIn haves stores
+unfolding damagedIn
+ask-on {haves} {stores} {k} a h =
+    let n : k + 1 ≡ suc k = omega arith in
+    let m : 512 * (k + 1) ≡ 512 * k + 512 = omega arith in
+    rw (m, n) (rw (drop-cons haves k 0 h, drop-drop 512 (512 * k) stores) at (a .left))
+
+pub none-damaged : {haves stores : List ℕ} {k : ℕ} → Asking haves stores k → length haves ≤ k → false ≡ damagedIn haves stores
+unfolding damagedIn
+none-damaged {haves} {stores} {k} a h = rw (drop-of-length-le haves {i = k} h) at (a .left)
 
 pub record Counting (haves : List ℕ) (count i : ℕ) : Type 0 where
   pub upto : i ≤ length haves
@@ -140,13 +185,23 @@ module _ (haves stores room : List ℕ) where
     size : length (gathered haves stores) ≡ 512 * completeIn haves
     size = length-gathered haves stores (fits haves (length stores) right)
 
-    pub gather-short : length room < 512 * completeIn haves → gatherOf haves stores room ≡ gatherOutcome (given 8 0) room
-    unfolding gatherOf gatherRefusal
-    gather-short l = rw (right, size, lt-ltb _ _ l)
+    damage : anyDamaged (Roll.blocks (gathered haves stores)) ≡ damagedIn haves stores
+    damage =
+        let count : 512 * completeIn haves / 512 ≡ completeIn haves = omega arith in
+        rw (size, count) (damaged-gathered haves stores (fits haves (length stores) right))
 
-    pub gather-served : 512 * completeIn haves ≤ length room → gatherOf haves stores room ≡ gatherOutcome (given 0 (512 * completeIn haves)) (written room 0 (gathered haves stores))
+    pub gather-damaged : damagedIn haves stores ≡ true → gatherOf haves stores room ≡ gatherOutcome (given 18 0) room
     unfolding gatherOf gatherRefusal
-    gather-served l = rw (right, size, le-ltb _ _ l)
+    gather-damaged t = rw (right, damage, t)
+
+    module _ (passes : damagedIn haves stores ≡ false) where
+      pub gather-short : length room < 512 * completeIn haves → gatherOf haves stores room ≡ gatherOutcome (given 8 0) room
+      unfolding gatherOf gatherRefusal
+      gather-short l = rw (right, damage, passes, size, lt-ltb _ _ l)
+
+      pub gather-served : 512 * completeIn haves ≤ length room → gatherOf haves stores room ≡ gatherOutcome (given 0 (512 * completeIn haves)) (written room 0 (gathered haves stores))
+      unfolding gatherOf gatherRefusal
+      gather-served l = rw (right, damage, passes, size, le-ltb _ _ l)
 
 module _ (haves stores room rows : List ℕ) where
   abbrev pub refusing : ℕ → Outcome
@@ -157,7 +212,7 @@ module _ (haves stores room rows : List ℕ) where
   roll-refused t = rw t
 
   module _ (right : wrongRun haves (length stores) ≡ false) where
-    by-roll : Roll.refusalOf (gathered haves stores) (length rows) ≡ cond (ltb 64 (completeIn haves)) 1 (cond (ltb (length rows) (completeIn haves)) 1 0)
+    by-roll : Roll.refusalOf (gathered haves stores) (length rows) ≡ cond (ltb 64 (completeIn haves)) 1 (cond (ltb (length rows) (completeIn haves)) 1 (cond (damagedIn haves stores) 18 0))
     by-roll = roll-refuses haves stores (length rows) (fits haves (length stores) right)
 
     pub too-many : ltb 64 (completeIn haves) ≡ true → rollOf haves stores room rows ≡ refusing 1
@@ -170,10 +225,15 @@ module _ (haves stores room rows : List ℕ) where
       too-few-rows t = rw (right, by-roll, few, t)
 
       module _ (enough : ltb (length rows) (completeIn haves) ≡ false) where
-        pub roll-short : length room < 512 * completeIn haves → rollOf haves stores room rows ≡ refusing 8
+        pub roll-damaged : damagedIn haves stores ≡ true → rollOf haves stores room rows ≡ refusing 18
         unfolding rollOf refusalOf
-        roll-short l = rw (right, by-roll, few, enough, size haves stores room right, lt-ltb _ _ l)
+        roll-damaged t = rw (right, by-roll, few, enough, t)
 
-        pub roll-served : 512 * completeIn haves ≤ length room → rollOf haves stores room rows ≡ rolled (gathered haves stores) room rows
-        unfolding rollOf refusalOf
-        roll-served l = rw (right, by-roll, few, enough, size haves stores room right, le-ltb _ _ l)
+        module _ (passes : damagedIn haves stores ≡ false) where
+          pub roll-short : length room < 512 * completeIn haves → rollOf haves stores room rows ≡ refusing 8
+          unfolding rollOf refusalOf
+          roll-short l = rw (right, by-roll, few, enough, passes, size haves stores room right, lt-ltb _ _ l)
+
+          pub roll-served : 512 * completeIn haves ≤ length room → rollOf haves stores room rows ≡ rolled (gathered haves stores) room rows
+          unfolding rollOf refusalOf
+          roll-served l = rw (right, by-roll, few, enough, passes, size haves stores room right, le-ltb _ _ l)

@@ -1,16 +1,14 @@
 -- INQUIRY and the roll from intakes that streams have filled, however divided: they see the first 512 bytes of a stream, and of a
 -- shorter one nothing.
-use mathlib.Core.Path.{_≡_, refl}
+use mathlib.Core.Path.{_≡_, refl, sym}
 use mathlib.Core.Bool.{Bool, true, false, cond, not}
 use mathlib.Core.List.{List, [], _∷_}
-use Prim.Native.Nat.{ℕ, _*_, _/_, _%_, _≤_, _<_}
+use Prim.Native.Nat.{ℕ, _*_, _≤_, _<_}
 use native.Mathlib.Omega.{arith}
-use lib.Dec.{eqb, leb, ltb}
+use lib.Dec.{eqb, leb}
 use lib.ListN.{length, take, length-append}
 use lib.Seq.{take-at, drop-at}
-use borrow.Author.Tests.{eq-eqb, le-ltb, leb-true, leb-false}
-use Rattle.rules.specs.Bits.{flag}
-use Rattle.rules.specs.First.{_when_, first}
+use borrow.Author.Tests.{eq-eqb, eqb-true, le-ltb, leb-true, leb-false}
 use Rattle.intake.specs.Intake.{blockOf}
 use Rattle.intake.specs.Stream.{Held, begin, runs, stream}
 use Rattle.intake.proofs.Stream.{whole-block, no-block-yet, right-end}
@@ -69,22 +67,19 @@ claims (bay ∷ bays) s = rw (le-ltb 512 (end bay .intake .have) (sized bay (s .
 right-run : (bays : List Bay) → Stores bays → wrongRun (havesOf bays) (length (storesOf bays)) ≡ false
 right-run bays s = rw (eq-eqb _ _ (sizes bays s), claims bays s)
 
--- The roll refuses with 1 alone.
-only-one : (bytes : List ℕ) (rows : ℕ) → flag (not (eqb (Roll.refusalOf bytes rows) 0)) ≡ Roll.refusalOf bytes rows
-unfolding Roll.refusalOf
-only-one bytes rows = by (not (eqb (length bytes % 512) 0)) (ltb 32768 (length bytes)) (ltb rows (length bytes / 512))
+-- A number that is asked whether it is one.
+itself : (number : ℕ) → cond (not (eqb number 0)) number 0 ≡ number
+itself number = by (eqb number 0) refl
   where
-    by : (a b c : Bool) → flag (not (eqb (first ((1 when a) ∷ (1 when b) ∷ (1 when c) ∷ [])) 0)) ≡ first ((1 when a) ∷ (1 when b) ∷ (1 when c) ∷ [])
-    by true b c = refl
-    by false true c = refl
-    by false false true = refl
-    by false false false = refl
+    by : (b : Bool) → eqb number 0 ≡ b → cond (not b) number 0 ≡ number
+    by true e = sym (eqb-true number 0 e)
+    by false e = refl
 
 module _ (bays : List Bay) (s : Stores bays) (room rows : List ℕ) (fits : length (blocksOf bays) ≤ length room) where
   -- In room that holds the blocks, the run is refused as the roll refuses them, and else not.
   refused-as : refusalOf (havesOf bays) (storesOf bays) (length room) (length rows) ≡ Roll.refusalOf (blocksOf bays) (length rows)
   unfolding refusalOf
-  refused-as = rw (right-run bays s, gathered-streams bays s, le-ltb _ _ fits) (only-one (blocksOf bays) (length rows))
+  refused-as = rw (right-run bays s, gathered-streams bays s, le-ltb _ _ fits) (itself (Roll.refusalOf (blocksOf bays) (length rows)))
 
   abbrev from-intakes : Outcome
   from-intakes = rollOf (havesOf bays) (storesOf bays) room rows

@@ -6,6 +6,7 @@ use lib.Dec.{eqb, ltb}
 use lib.ListN.{length, take, drop}
 use Rattle.rules.specs.First.{Check, _when_, first}
 use Rattle.room.specs.Room.{written}
+use Rattle.checksum.specs.Checksum.{anyDamaged}
 use Rattle.intake.specs.Intake.{wrongIntake, complete, blockOf}
 use Rattle.inquiry_checks.specs.Request.{request}
 use Rattle.inquiry.specs.Inquiry.{refused, inquiry}
@@ -35,10 +36,11 @@ gathered (have ∷ haves) stores = blockOf have (take 512 stores) ++ gathered ha
 abbrev pub wrongRun : List ℕ → ℕ → Bool
 wrongRun haves stores = not (eqb stores (512 * length haves)) || claimsTooMuch haves
 
--- Gathering them: 8 where the room is shorter than their bytes.
+-- Gathering them: 18 where one of them is damaged, 8 where the room is shorter than their bytes.
 abbrev pub gatherChecks : List ℕ → List ℕ → ℕ → List Check
 gatherChecks haves stores room =
     (1 when wrongRun haves (length stores))
+    ∷ (18 when anyDamaged (Roll.blocks (gathered haves stores)))
     ∷ (8 when ltb room (length (gathered haves stores)))
     ∷ []
 
@@ -61,11 +63,12 @@ gatherOf haves stores room =
     (gatherOutcome (given 0 (length (gathered haves stores))) (written room 0 (gathered haves stores)))
     (gatherOutcome (given (gatherRefusal haves stores (length room)) 0) room)
 
--- The roll of a run: 1 where the intakes or the roll of their blocks would be refused, 8 where room is short of the blocks.
+-- The roll of a run: 1 where the intakes are refused, the number with which the roll of their blocks is, 8 where room is short of the
+-- blocks.
 abbrev pub checks : List ℕ → List ℕ → ℕ → ℕ → List Check
 checks haves stores room rows =
     (1 when wrongRun haves (length stores))
-    ∷ (1 when not (eqb (Roll.refusalOf (gathered haves stores) rows) 0))
+    ∷ (Roll.refusalOf (gathered haves stores) rows when not (eqb (Roll.refusalOf (gathered haves stores) rows) 0))
     ∷ (8 when ltb room (length (gathered haves stores)))
     ∷ []
 

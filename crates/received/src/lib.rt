@@ -12,7 +12,7 @@ ghost use Rattle.room.specs.Room.{Wrote};
 ghost use Rattle.intake.specs.Intake.{complete};
 ghost use Rattle.inquiry.specs.Inquiry.{outcome as inquiryOutcome};
 ghost use Rattle.received.specs.Received.{inquiryOf, claimsTooMuch, gathered, wrongRun, given, gatherOutcome, gatherOf, outcome, rollOf};
-ghost use Rattle.received.specs.Helpers.{completeIn};
+ghost use Rattle.received.specs.Helpers.{completeIn, damagedIn};
 
 // Answers an INQUIRY command from an intake's block.
 pub fn inquiry(
@@ -98,6 +98,21 @@ fn count_complete(haves: &[u16]) -> usize
     count
 }
 
+// Whether the block of some intake is damaged; one that is not complete has none to ask.
+fn any_damaged(haves: &[u16], stores: &[u8]) -> bool
+    requires { ⌜ wrongRun (now haves) (length (now stores)) ≡ false ⌝ }
+    ensures { λ r. ⌜ r ≡ damagedIn (now (haves .entry)) (now (stores .entry)) ⌝ }
+{
+    let mut k = 0;
+    while k < haves.len() {
+        if checksum::damaged(intake::block(haves[k], roll::block_at(stores, k))) {
+            return true;
+        }
+        k += 1;
+    }
+    false
+}
+
 // Writes the blocks of the complete intakes one after the other.
 fn put_blocks(haves: &[u16], stores: &[u8], room: &mut [u8])
     requires { ⌜ wrongRun (now haves) (length (now stores)) ≡ false ⌝ }
@@ -133,6 +148,9 @@ pub fn gather(haves: &[u16], stores: &[u8], room: &mut [u8]) -> Gathered
     if wrong_run(haves, stores.len()) {
         return gave(1, 0);
     }
+    if any_damaged(haves, stores) {
+        return gave(18, 0);
+    }
     let count = 512 * count_complete(haves);
     if room.len() < count {
         return gave(8, 0);
@@ -164,6 +182,9 @@ pub fn roll(haves: &[u16], stores: &[u8], room: &mut [u8], rows: &mut [u16]) -> 
     }
     if rows.len() < count {
         return refused(1);
+    }
+    if any_damaged(haves, stores) {
+        return refused(18);
     }
     let bytes = 512 * count;
     if room.len() < bytes {
