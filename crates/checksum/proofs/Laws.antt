@@ -1,13 +1,15 @@
 -- Laws of sums, and of runs of blocks.
 use mathlib.Core.Path.{_≡_, refl, ap, sym, _∙_}
-use mathlib.Core.Bool.{Bool, true, _||_, or-assoc, or-false, or-true}
+use mathlib.Core.Bool.{Bool, true, false, _&&_, _||_, or-assoc, or-false, or-true, and-false, and-eq-true-iff, true≢false}
 use mathlib.Core.List.{List, [], _∷_, _++_}
 use Prim.Native.Nat.{ℕ, zero, suc, _+_, _%_, _≤_, _<_}
 use native.Mathlib.Nat.{le-of-suc-le-suc, not-suc-le-zero}
 use native.Mathlib.Omega.{arith}
 use lib.ListN.{length, getD, drop, drop-of-length-le}
 use lib.Seq.{drop-cons}
-use Rattle.checksum.specs.Checksum.{sumOf, damaged, anyDamaged}
+use lib.Dec.{eqb}
+use borrow.Author.Tests.{eqb-true}
+use Rattle.checksum.specs.Checksum.{sumOf, damaged, damagedBy, anyDamaged}
 
 pub sum-append : (a b : List ℕ) → sumOf (a ++ b) ≡ sumOf a + sumOf b
 unfolding sumOf
@@ -53,3 +55,28 @@ unfolding anyDamaged
 damaged-at [] k h e = absurd (not-suc-le-zero h)
 damaged-at (x ∷ run) zero h e = rw e
 damaged-at (x ∷ run) (suc k) h e = rw (damaged-at run k (le-of-suc-le-suc h) e, or-true)
+
+-- And where there is none, none is.
+pub all-pass : (run : List (List ℕ)) → ((k : ℕ) → k < length run → damaged (getD run k []) ≡ false) → anyDamaged run ≡ false
+unfolding anyDamaged
+all-pass [] z = refl
+all-pass (x ∷ run) z = rw (z 0 (omega arith)) (all-pass run (λ k h. z (suc k) (omega arith)))
+
+pub each-passes : (run : List (List ℕ)) → anyDamaged run ≡ false → (k : ℕ) → k < length run → damaged (getD run k []) ≡ false
+each-passes run e k h = by (damaged (getD run k [])) refl
+  where
+    by : (t : Bool) → damaged (getD run k []) ≡ t → t ≡ false
+    by true d = absurd (true≢false (sym (damaged-at run k h d) ∙ e))
+    by false d = refl
+
+-- Only a block of 512 bytes is damaged,
+pub damaged-size : (block : List ℕ) → damaged block ≡ true → length block ≡ 512
+unfolding damaged damagedBy
+damaged-size block e =
+    let asked = eqb (getD block 510 0) 0xA5 in
+    eqb-true _ _ (and-eq-true-iff (eqb (length block) 512) asked .0 (and-eq-true-iff (eqb (length block) 512 && asked) _ .0 e .0) .0)
+
+-- and only one with A5h in byte 510.
+pub unsigned-passes : (block : List ℕ) → eqb (getD block 510 0) 0xA5 ≡ false → damaged block ≡ false
+unfolding damaged damagedBy
+unsigned-passes block e = rw (e, and-false)

@@ -8,7 +8,7 @@ use native.Mathlib.Omega.{arith}
 use lib.Dec.{eqb}
 use lib.ListN.{length, getD, take, drop, set, length-take, length-set}
 use lib.Seq.{take-append-le, getD-set-same, getD-set-other}
-use borrow.Author.Tests.{eq-eqb, eqb-false}
+use borrow.Author.Tests.{eq-eqb, ne-eqb, eqb-false, le-ltb}
 use Rattle.laws.proofs.Laws.{cut-twice, cut-to-more, cut-to-the-size}
 use Rattle.identify.specs.Drive.{carriesName}
 use Rattle.page83.specs.Page83.{page83}
@@ -101,7 +101,7 @@ cut-again q a b room sense other-room other-sense le lt ea eb =
     ∙ sym (ap (take a) (shows-asked q b other-room other-sense lt eb) ∙ cut-twice b a (whatever q) ∙ ap (λ (n : ℕ). take n (whatever q)) least)
 
 -- Asked for the complete page 83h, it shows the page.
-module _ (q : Request) (room sense : List ℕ) (a : AsksItsName q) where
+module _ (q : Request) (room sense : List ℕ) (a : AsksItsName q room sense) where
   through : passesThrough (isPacket q) (q .command) ≡ false
   through = rw (a .disk)
 
@@ -109,27 +109,50 @@ module _ (q : Request) (room sense : List ℕ) (a : AsksItsName q) where
   unfolding page
   page-is = rw (a .disk, a .page-asked, a .page-83h)
 
-  whole : refusal q room sense ≡ 0 → length (q .block) ≡ 512
-  whole z = granted q (length sense) (early q room sense z) .servable through .block (rw (a .disk, a .page-asked, a .page-83h))
+  accepts : refusal q room sense ≡ 0
+  unfolding refusalOf
+  accepts =
+      let fits : toWrite q ≤ length room = omega (arith, ap length page-is, a .block .enough) in
+      rw (
+        le-ltb (length room) (toWrite q) fits,
+        a .block .whole,
+        a .signature,
+        a .texts,
+        le-ltb (length sense) 22 (a .sense-room),
+        a .block .passes,
+        ne-eqb (length (q .command)) 0 (λ e. absurd (omega (arith, e, a .whole-command))),
+        a .opcode,
+        le-ltb (length (q .command)) 6 (a .whole-command),
+        a .disk,
+        a .no-naca,
+        a .no-cmddt,
+        a .page-asked,
+        a .page-83h,
+      )
 
-  short-enough : length (q .block) ≡ 512 → length (page83 (q .block)) ≤ allocation (q .command)
-  short-enough l = rw (page-sizes (q .block) l) (by (carriesName (q .block)))
+  number-zero : inquiry q room sense .answer .number ≡ 0
+  number-zero = rw (inquiry-is q room sense accepts, through)
+
+  short-enough : length (page83 (q .block)) ≤ allocation (q .command)
+  short-enough = rw (page-sizes (q .block) (a .block .whole)) (by (carriesName (q .block)))
     where
       by : (t : Bool) → cond t 16 76 ≤ allocation (q .command)
       by true = omega (arith, a .complete)
       by false = a .complete
 
-  shown-is : refusal q room sense ≡ 0 → shown q (inquiry q room sense) ≡ page83 (q .block)
-  shown-is z =
-      shows q room sense z
-      ∙ rw (through, page-is) (cut-to-more (allocation (q .command)) (page83 (q .block)) (short-enough (whole z)))
+  shown-is : shown q (inquiry q room sense) ≡ page83 (q .block)
+  shown-is =
+      shows q room sense accepts
+      ∙ rw (through, page-is) (cut-to-more (allocation (q .command)) (page83 (q .block)) short-enough)
 
 pub pages-of-inquiry : PagesOfInquiry
-pages-of-inquiry q r room sense other-room other-sense a b ea eb =
-    let za = zero q room sense ea in
-    let zb = zero r other-room other-sense eb in
-    let pa = shown-is q room sense a za in
-    let pb = shown-is r other-room other-sense b zb in (
-      λ e. same-page (q .block) (r .block) (whole q room sense a za) (whole r other-room other-sense b zb) (sym pa ∙ e ∙ pb),
-      λ e. pa ∙ same-drive-same-page (q .block) (r .block) e ∙ sym pb,
+pages-of-inquiry q r room sense other-room other-sense a b =
+    let pa = shown-is q room sense a in
+    let pb = shown-is r other-room other-sense b in (
+      number-zero q room sense a,
+      number-zero r other-room other-sense b,
+      (
+        λ e. same-page (q .block) (r .block) (a .block .whole) (b .block .whole) (sym pa ∙ e ∙ pb),
+        λ e. pa ∙ same-drive-same-page (q .block) (r .block) e ∙ sym pb,
+      ),
     )

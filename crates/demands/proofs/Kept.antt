@@ -6,8 +6,9 @@ use Rattle.demands.proofs.Refusals.{refusals-change-nothing}
 use Rattle.demands.proofs.Soundings.{soundings-hold}
 use Rattle.demands.proofs.Inquiry.{within-allocation, cut-again, pages-of-inquiry}
 use Rattle.demands.proofs.Order.{direction-from-the-fields, only-the-command-differs, own-flags, completed-with-its-own-fields, none-taken-while-pending, protocol-15-keeps-the-record}
-use Rattle.demands.proofs.Page83.{reads-back, accepted-is-written, pages-of-the-writer}
-use Rattle.demands.proofs.Roll.{roll-of-drives}
+use Rattle.demands.proofs.Page83.{reads-back, accepted-is-written, writer-accepts, pages-of-the-writer}
+use Rattle.demands.proofs.Roll.{roll-accepts, roll-of-drives}
+use Rattle.demands.proofs.Damaged.{damaged-is-refused, carried-sum}
 use Rattle.demands.proofs.Stream.{stream-of-runs, inquiry-from-a-stream, roll-of-streams}
 
 settled : {O : Type 0} (outcome : O) → Settled outcome
@@ -35,6 +36,7 @@ kept =
     record {
       one-outcome = one-outcome;
       refusals-change-nothing = refusals-change-nothing;
+      damaged-is-refused = damaged-is-refused;
       within-allocation = within-allocation;
       cut-again = cut-again;
       soundings-hold = soundings-hold;
@@ -47,10 +49,13 @@ kept =
       reads-back = reads-back;
       accepted-is-written = accepted-is-written;
       same-drive-by-words = λ a b ba bb la lb. same-drive-by-words ba bb la lb;
+      roll-accepts = roll-accepts;
       roll-of-drives = roll-of-drives;
+      writer-accepts = writer-accepts;
       pages-of-the-writer = pages-of-the-writer;
       pages-of-inquiry = pages-of-inquiry;
       stream-of-runs = stream-of-runs;
       inquiry-from-a-stream = inquiry-from-a-stream;
       roll-of-streams = roll-of-streams;
+      carried-sum = carried-sum;
     }

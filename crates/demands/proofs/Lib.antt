@@ -6,4 +6,5 @@ pub mod Order
 pub mod Page83
 pub mod Roll
 pub mod Stream
+pub mod Damaged
 pub mod Kept

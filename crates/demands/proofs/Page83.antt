@@ -7,10 +7,12 @@ use Prim.Native.Nat.{ℕ, zero, suc, _+_, _*_, _-_, _≤_, _<_}
 use native.Mathlib.Omega.{arith}
 use lib.Dec.{eqb, ltb, eqb·suc-zero}
 use lib.ListN.{length, getD, take, drop, replicate, length-append, length-take, length-drop, length-replicate, take-append-drop}
-use lib.Seq.{take-at, drop-at, drop-drop}
+use lib.Seq.{take-at, drop-at, drop-drop, getD-append-add}
 use borrow.Author.Tests.{eq-eqb, eqb-true, le-ltb, ltb-false, not-false}
 use Rattle.rules.proofs.First.{silent}
 use Rattle.room.specs.Room.{written}
+use Rattle.checksum.specs.Checksum.{damaged}
+use Rattle.checksum.proofs.Laws.{unsigned-passes}
 use Rattle.identify.specs.Bytes.{Bytes, no-more, more}
 use Rattle.identify.specs.Block.{words, serial, model, name}
 use Rattle.texts.specs.Text.{turned, space, spaced}
@@ -25,7 +27,7 @@ use Rattle.page83.specs.Page83.{page83, namePage, textPage, checks, refusalOf, 
 use Rattle.page83_reader.specs.Reader.{noZero, namesDrive, tellsTexts, inSixty, read}
 use Rattle.room.proofs.Laws.{front}
 use Rattle.page83.proofs.Laws.{named-page, unnamed-page, length-model-text, length-serial-text}
-use Rattle.demands.specs.Promises.{left, nameOf, ReadsBack, AcceptedIsWritten, PagesOfTheWriter}
+use Rattle.demands.specs.Promises.{left, nameOf, ReadsBack, AcceptedIsWritten, Writable, WriterAccepts, PagesOfTheWriter}
 use Rattle.demands.proofs.Refusals.{not-refused}
 
 -- Turning makes no bit and loses none.
@@ -99,23 +101,22 @@ module _ (block room : List ℕ) where
   abbrev refused : ℕ → Outcome
   refused number = Page83.outcome (record { number = number; count = 0 }) room
 
-  record Fits : Type 0 where
-    whole : length block ≡ 512
-    enough : length (page83 block) ≤ length room
-
-  fits : write block room .written .number ≡ 0 → Fits
+  fits : write block room .written .number ≡ 0 → Writable block room
   unfolding write refusalOf
   fits e =
       let z = not-refused (λ (o : Outcome). o .written .number) refused accepted (refusalOf block (length room)) refl e in
       let c = silent (checks block (length room)) refl z in
-      record { whole = eqb-true _ _ (not-false _ (c .0)); enough = ltb-false _ _ (c .1 .0) }
+      record { whole = eqb-true _ _ (not-false _ (c .0)); passes = c .1 .0; enough = ltb-false _ _ (c .1 .1 .0) }
 
-  write-is : Fits → write block room ≡ accepted
+  write-is : Writable block room → write block room ≡ accepted
   unfolding write refusalOf
-  write-is f = rw (eq-eqb _ _ (f .whole), le-ltb _ _ (f .enough))
+  write-is f = rw (eq-eqb _ _ (f .whole), f .passes, le-ltb _ _ (f .enough))
 
-  left-is : Fits → left (write block room) ≡ page83 block
+  left-is : Writable block room → left (write block room) ≡ page83 block
   left-is f = ap left (write-is f) ∙ front room (page83 block) (f .enough)
+
+pub writer-accepts : WriterAccepts
+writer-accepts block room = (fits block room, λ f. ap (λ (o : Outcome). o .written .number) (write-is block room f))
 
 pub reads-back : ReadsBack
 reads-back block room e =
@@ -178,6 +179,15 @@ module _ {s m n : List ℕ} (f : Fields s m n) where
       put-back 87 87 (blockOf s m n) (zeros 20 ++ s ++ zeros 14 ++ m ++ zeros 80) said (zeros 40 ++ n ++ zeros 288) (simp append-assoc)
       (simp (length-append, length-zeros) (omega arith)) refl
 
+  -- byte 510 is one of the zeros at its end
+  passes : damaged (blockOf s m n) ≡ false
+  unfolding blockOf zeros
+  passes =
+      let front = zeros 20 ++ s ++ zeros 14 ++ m ++ zeros 80 ++ said ++ zeros 40 ++ n in
+      let at : 510 ≡ length front + 286 = simp (length-append, length-zeros) (omega arith) in
+      let zero-there : getD (front ++ zeros 288) 510 0 ≡ 0 = ap (λ (k : ℕ). getD (front ++ zeros 288) k 0) at ∙ getD-append-add front (zeros 288) 286 0 in
+      unsigned-passes (blockOf s m n) (rw zero-there)
+
   carries : carriesName (blockOf s m n) ≡ someBit n
   carries = said-named (blockOf s m n) (ap saysNamed (field-word 87 (blockOf s m n) said-of)) ∙ ap someBit name-of
 
@@ -215,9 +225,9 @@ bytes-block : {s m n : List ℕ} → Bytes s → Bytes m → Bytes n → Bytes (
 unfolding blockOf
 bytes-block s m n = search (bytes-append, bytes-zeros, bytes-said) depth 10
 
--- The writer can make this page: a block of 512 has it, and one of bytes where the page is of bytes.
+-- The writer can make this page: a block of 512 that passes has it, and one of bytes where the page is of bytes.
 abbrev Made : List ℕ → Type 0
-Made page = (block : List ℕ) × (length block ≡ 512) × (page83 block ≡ page) × (Bytes page → Bytes block)
+Made page = (block : List ℕ) × (length block ≡ 512) × (damaged block ≡ false) × (page83 block ≡ page) × (Bytes page → Bytes block)
 
 -- The block of a name page: its name, turned back, and zeros.
 namedBlock : List ℕ → List ℕ
@@ -235,6 +245,7 @@ made-name page h =
     } in (
       namedBlock page,
       length-block f,
+      passes f,
       page-of-name f (some-bit-turned n ∙ w .2) ∙ ap namePage (turned-twice n) ∙ w .1,
       λ b. bytes-block (bytes-zeros 20) (bytes-zeros 40) (bytes-turned (bytes-cut 8 b .1)),
     )
@@ -265,6 +276,7 @@ made-texts page h =
     } in (
       textBlock page,
       length-block f,
+      passes f,
       page-of-texts f no-name ∙ rw (turned-twice m, turned-twice s) (ap (textPage []) (both-texts page (w .2))) ∙ w .1,
       λ b. bytes-block (bytes-turned (bytes-cut 56 b .1)) (bytes-turned (bytes-cut 40 (bytes-cut 16 b .1) .0)) (bytes-zeros 8),
     )
@@ -283,10 +295,10 @@ pub accepted-is-written : AcceptedIsWritten
 accepted-is-written page h =
     let w = accepted-is-made page h in (
       w .0,
-      w .3,
+      w .4,
       λ room l.
-          let f : Fits (w .0) room = record { whole = w .1; enough = rw (w .2) l } in
-          (ap (λ (o : Outcome). o .written .number) (write-is (w .0) room f), left-is (w .0) room f ∙ w .2),
+          let f : Writable (w .0) room = record { whole = w .1; passes = w .2; enough = rw (w .3) l } in
+          (ap (λ (o : Outcome). o .written .number) (write-is (w .0) room f), left-is (w .0) room f ∙ w .3),
     )
 
 -- Texts are equal with their zero bytes as spaces, turned or not.
@@ -322,9 +334,7 @@ module _ (a b : List ℕ) where
           inr (h, k, one-text (model a) (model b) .0 (w .0), one-text (serial a) (serial b) .0 (w .1))
 
 pub pages-of-the-writer : PagesOfTheWriter
-pages-of-the-writer a b room other ea eb =
-    let f = fits a room ea in
-    let g = fits b other eb in (
-      λ e. same-page a b (f .whole) (g .whole) (sym (left-is a room f) ∙ e ∙ left-is b other g),
-      λ e. left-is a room f ∙ same-drive-same-page a b e ∙ sym (left-is b other g),
-    )
+pages-of-the-writer a b room other f g = (
+  λ e. same-page a b (f .whole) (g .whole) (sym (left-is a room f) ∙ e ∙ left-is b other g),
+  λ e. left-is a room f ∙ same-drive-same-page a b e ∙ sym (left-is b other g),
+)

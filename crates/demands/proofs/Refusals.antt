@@ -1,12 +1,13 @@
 -- Demand 1 of refusals: an entry's outcome is what was accepted, which carries 0, or what its refusal's number alone decides.
 use mathlib.Core.Path.{_≡_, refl, sym, ap, _∙_}
-use mathlib.Core.Bool.{Bool, true, false, cond}
-use mathlib.Core.List.{List, []}
+use mathlib.Core.Bool.{Bool, true, false, cond, not}
+use mathlib.Core.List.{List, [], _∷_}
 use Prim.Native.Nat.{ℕ}
-use lib.Dec.{eqb}
+use native.Mathlib.Omega.{arith}
+use lib.Dec.{eqb, ltb}
 use lib.ListN.{length}
-use borrow.Author.Tests.{eq-eqb, eqb-true, not-false}
-use Rattle.rules.proofs.First.{silent}
+use borrow.Author.Tests.{eq-eqb, eqb-true}
+use Rattle.rules.specs.First.{_when_, first}
 use Rattle.page83.specs.Page83 as Page83
 use Rattle.page83.specs.Page83.{write}
 use Rattle.page83_reader.specs.Reader.{namesDrive, tellsTexts, inSixty, read}
@@ -125,11 +126,18 @@ of-inquiry-from-intake have store command signature texts reply room sense h = b
     by false h = of-inquiry q room sense h
 
 -- The roll of intakes, where it is not refused, is a roll that is not.
+not-by-roll : (wrong short : Bool) (number : ℕ) → first ((1 when wrong) ∷ (number when not (eqb number 0)) ∷ (8 when short) ∷ []) ≡ 0 → number ≡ 0
+not-by-roll true short number e = absurd (omega (arith, e))
+not-by-roll false short number e = by (eqb number 0) refl e
+  where
+    by : (t : Bool) → eqb number 0 ≡ t → cond (not t) number (cond short 8 0) ≡ 0 → number ≡ 0
+    by true h e = eqb-true number 0 h
+    by false h e = e
+
 rolled-zero : (haves stores room rows : List ℕ) → Received.refusalOf haves stores (length room) (length rows) ≡ 0 → Received.rolled (gathered haves stores) room rows .counted .number ≡ 0
 unfolding Received.refusalOf roll
 rolled-zero haves stores room rows e =
-    let c = silent (Received.checks haves stores (length room) (length rows)) refl e in
-    rw (not-false (eqb (Roll.refusalOf (gathered haves stores) (length rows)) 0) (c .1 .0))
+    rw (eq-eqb (Roll.refusalOf (gathered haves stores) (length rows)) 0 (not-by-roll (Received.wrongRun haves (length stores)) (ltb (length room) (length (gathered haves stores))) (Roll.refusalOf (gathered haves stores) (length rows)) e))
 
 of-roll-of-intakes : (haves stores room rows : List ℕ) → Refused (rollOf haves stores room rows .counted .number) → rollOf haves stores room rows ≡ Received.outcome (record { number = rollOf haves stores room rows .counted .number; blocks = 0; drives = 0 }) room rows
 unfolding rollOf

@@ -1,4 +1,4 @@
--- Demand 3 of the roll: what an accepted roll leaves in the room and answers.
+-- Demand 3 of the roll: which blocks it accepts, and what it leaves in the room and answers then.
 use mathlib.Core.Path.{_≡_, refl, sym, ap, _∙_}
 use mathlib.Core.Bool.{Bool, true, false, cond, _||_, not, true≢false, false≢true}
 use mathlib.Core.Logic.{_↔_, ⊎-elim}
@@ -13,12 +13,14 @@ use borrow.Author.Tests.{eqb-true, ltb-false, not-false, eq-eqb, le-ltb}
 use Rattle.rules.proofs.First.{silent}
 use Rattle.room.specs.Room.{written}
 use Rattle.room.proofs.Laws.{written-front, length-written}
+use Rattle.checksum.specs.Checksum.{anyDamaged}
+use Rattle.checksum.proofs.Laws.{all-pass, each-passes}
 use Rattle.identify.specs.Drive.{sameDrive}
 use Rattle.identify.proofs.Drive.{same-drive-self, same-drive-turned-round, same-drive-through}
 use Rattle.roll.specs.Roll.{blocksIn, blocks, blockAt, known, met, drivesFrom, drives, rowIn, rows, checks, refusalOf, Outcome, roll}
 use Rattle.roll.specs.Roll as Roll
 use Rattle.roll.proofs.Laws.{blocks-more, length-blocks, block-of, known-append, known-met, known-drives, drives-append, drives-more, row-same, row-kept, row-new, rows-more, each-known, row-at, length-rows, read-row, unknown, same-either-way}
-use Rattle.demands.specs.Promises.{rowAt, Rolled, RollOfDrives}
+use Rattle.demands.specs.Promises.{rowAt, Rollable, RollAccepts, Rolled, RollOfDrives}
 use Rattle.demands.proofs.Refusals.{not-refused}
 
 -- Rows run from 1, and a known drive shares its row with no other.
@@ -155,30 +157,36 @@ module _ (bytes room : List ℕ) where
   abbrev accepted : Outcome
   accepted = Roll.outcome (record { number = 0; blocks = length bytes / 512; drives = length (drives (blocks bytes)) }) (written room 0 (rows (blocks bytes)))
 
-  record Fits : Type 0 where
-    whole : length bytes % 512 ≡ 0
-    few : length bytes ≤ 32768
-    entries : length bytes / 512 ≤ length room
-
-  fits : refusalOf bytes (length room) ≡ 0 → Fits
+  fits : refusalOf bytes (length room) ≡ 0 → Rollable bytes room
   unfolding refusalOf
   fits e =
       let c = silent (checks bytes (length room)) refl e in
       record {
-        whole = eqb-true _ _ (not-false _ (c .0));
-        few = ltb-false _ _ (c .1 .0);
-        entries = ltb-false _ _ (c .1 .1 .0);
+        sized = record {
+          whole = eqb-true _ _ (not-false _ (c .0));
+          few = ltb-false _ _ (c .1 .0);
+          enough = ltb-false _ _ (c .1 .1 .0);
+        };
+        pass = λ i h. rw (block-of (length bytes / 512) i bytes h) at (each-passes (blocks bytes) (c .1 .1 .1 .0) i (rw (length-blocks (length bytes / 512) bytes) h));
       }
 
-  roll-is : Fits → roll bytes room ≡ accepted
-  unfolding roll refusalOf
-  roll-is f = rw (eq-eqb _ _ (f .whole), le-ltb _ _ (f .few), le-ltb _ _ (f .entries))
+  none-damaged : Rollable bytes room → anyDamaged (blocks bytes) ≡ false
+  none-damaged f =
+      let n = length bytes / 512 in
+      all-pass (blocks bytes)
+      (λ k h.
+      let l : k < n = rw (length-blocks n bytes) at h in
+      rw (block-of n k bytes l) (f .pass k l))
 
-  accepted-fits : roll bytes room .counted .number ≡ 0 → Fits
+  roll-is : Rollable bytes room → roll bytes room ≡ accepted
+  unfolding roll refusalOf
+  roll-is f = rw (eq-eqb _ _ (f .sized .whole), le-ltb _ _ (f .sized .few), le-ltb _ _ (f .sized .enough), none-damaged f)
+
+  accepted-fits : roll bytes room .counted .number ≡ 0 → Rollable bytes room
   unfolding roll
   accepted-fits e = fits (not-refused (λ (o : Outcome). o .counted .number) refused accepted (refusalOf bytes (length room)) refl e)
 
-  module _ (f : Fits) where
+  module _ (f : Rollable bytes room) where
     abbrev of : List (List ℕ)
     of = blocks bytes
 
@@ -194,7 +202,7 @@ module _ (bytes room : List ℕ) where
     entry-is : (i : ℕ) → i < length bytes / 512 → rowAt bytes room i ≡ getD (rows of) i 0
     entry-is i h =
         ap (λ (r : List ℕ). getD r i 0) room-is
-        ∙ read-row room (rows of) i (omega (arith, length-of-rows)) (omega (arith, length-of-rows, f .entries))
+        ∙ read-row room (rows of) i (omega (arith, length-of-rows)) (omega (arith, length-of-rows, f .sized .enough))
 
     place : (i : ℕ) → i < length bytes / 512 → getD of i [] ≡ blockAt bytes i
     place i h = block-of (length bytes / 512) i bytes h
@@ -226,23 +234,32 @@ module _ (bytes room : List ℕ) where
     later k h =
         let l = length-of-rows in
         let e : k ≡ length (rows of) + (k - length (rows of)) = omega arith in
-        ap (λ (r : List ℕ). getD r k 0) (room-is ∙ written-front room (rows of) ∙ ap (λ (t : List ℕ). t ++ drop (length (rows of)) room) (take-all (length room) (rows of) (omega (arith, l, f .entries))))
+        ap (λ (r : List ℕ). getD r k 0) (room-is ∙ written-front room (rows of) ∙ ap (λ (t : List ℕ). t ++ drop (length (rows of)) room) (take-all (length room) (rows of) (omega (arith, l, f .sized .enough))))
         ∙ ap (λ (m : ℕ). getD (rows of ++ drop (length (rows of)) room) m 0) e
         ∙ getD-append-add (rows of) (drop (length (rows of)) room) (k - length (rows of)) 0
         ∙ getD-drop (length (rows of)) room (k - length (rows of)) 0
         ∙ ap (λ (m : ℕ). getD room m 0) (sym e)
 
 -- The roll of a run's front, as long as the roll of the whole is accepted.
-count-of-front : (bytes room : List ℕ) → Fits bytes room → (i : ℕ) → i < length bytes / 512 → roll (take (512 * i) bytes) room .counted .drives ≡ length (drives (blocksIn i bytes))
+block-of-front : (i k : ℕ) (bytes : List ℕ) → k < i → blockAt (take (512 * i) bytes) k ≡ blockAt bytes k
+block-of-front i k bytes h =
+    sym (block-of i k (take (512 * i) bytes) h) ∙ ap (λ (l : List (List ℕ)). getD l k []) (blocks-of-front i bytes) ∙ block-of i k bytes h
+
+count-of-front : (bytes room : List ℕ) → Rollable bytes room → (i : ℕ) → i < length bytes / 512 → roll (take (512 * i) bytes) room .counted .drives ≡ length (drives (blocksIn i bytes))
 count-of-front bytes room f i h =
     let l : length (take (512 * i) bytes) ≡ 512 * i = length-take-le (512 * i) bytes (omega arith) in
     let d : length (take (512 * i) bytes) / 512 ≡ i = omega (arith, l) in
-    let g : Fits (take (512 * i) bytes) room = record { whole = omega (arith, l); few = omega (arith, l, f .few); entries = omega (arith, d, f .entries) } in
+    let g : Rollable (take (512 * i) bytes) room = record {
+      sized = record { whole = omega (arith, l); few = omega (arith, l, f .sized .few); enough = omega (arith, d, f .sized .enough) };
+      pass = λ k b. rw (block-of-front i k bytes (omega (arith, b, d))) (f .pass k (omega (arith, b, d, h)));
+    } in
     count-is (take (512 * i) bytes) room g ∙ ap (λ (n : ℕ). length (drives (blocksIn n (take (512 * i) bytes)))) d ∙ ap (λ (b : List (List ℕ)). length (drives b)) (blocks-of-front i bytes)
 
+pub roll-accepts : RollAccepts
+roll-accepts bytes room = (accepted-fits bytes room, λ f. ap (λ (o : Outcome). o .counted .number) (roll-is bytes room f))
+
 pub roll-of-drives : RollOfDrives
-roll-of-drives bytes room e =
-    let f = accepted-fits bytes room e in
+roll-of-drives bytes room f =
     record {
       blocks = ap (λ (o : Outcome). o .counted .blocks) (roll-is bytes room f);
       share-a-row = share bytes room f;

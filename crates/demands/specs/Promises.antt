@@ -11,16 +11,19 @@ use lib.ListN.{length, getD, take, set}
 use Rattle.rules.specs.Bits.{flag}
 use Rattle.room.specs.Room.{written}
 use Rattle.texts.specs.Text.{turned, spaced}
+use Rattle.checksum.specs.Checksum.{sumOf, damagedBy, damaged}
+use Rattle.sense.specs.Refusal.{noStatus}
 use Rattle.identify.specs.Block.{serial, model, name}
 use Rattle.identify.specs.Bytes.{Bytes}
 use Rattle.identify.specs.Words.{NameInWords, TextsInWords}
 use Rattle.identify.specs.Drive.{carriesName, sameDrive}
 use Rattle.page83.specs.Page83 as Page83
-use Rattle.page83.specs.Page83.{write}
+use Rattle.page83.specs.Page83.{page83, write}
 use Rattle.page83_reader.specs.declared.Name.{Name}
 use Rattle.page83_reader.specs.Reader.{inSixty, read}
-use Rattle.inquiry_fields.specs.Fields.{evpd, pageCode, allocation}
+use Rattle.inquiry_fields.specs.Fields.{evpd, cmddt, pageCode, allocation, naca}
 use Rattle.inquiry_checks.specs.Request.{Request, request, isPacket}
+use Rattle.inquiry_checks.specs.Checks.{wrongSize}
 use Rattle.inquiry.specs.Inquiry as Inquiry
 use Rattle.inquiry.specs.Inquiry.{inquiry, part}
 use Rattle.passthrough_fields.specs.Fields.{long, size, protocol, tDir, ckCond, extend}
@@ -37,10 +40,10 @@ use Rattle.roll.specs.Roll.{roll, blockAt}
 use Rattle.intake.specs.declared.Intake.{Intake}
 use Rattle.intake.specs.Intake as Intake
 use Rattle.intake.specs.declared.Took.{Took}
-use Rattle.intake.specs.Intake.{taken, sumOf}
+use Rattle.intake.specs.Intake.{wrongIntake, taken, blockOf}
 use Rattle.intake.specs.Stream.{begin, step, runs, stream}
 use Rattle.received.specs.Received as Received
-use Rattle.received.specs.Received.{inquiryOf, gatherOf, rollOf}
+use Rattle.received.specs.Received.{inquiryOf, gathered, wrongRun, gatherOf, rollOf}
 use Rattle.received.specs.Stream.{Bay, Stores, havesOf, storesOf, blockIn, blocksOf}
 use Rattle.demands.specs.Soundings.{SoundingsHold}
 
@@ -83,6 +86,29 @@ pub record RefusalsChangeNothing : Type 0 where
   pub of-gather : (haves stores room : List ℕ) → Refused (gatherOf haves stores room .gathered .number) → gatherOf haves stores room ≡ Received.gatherOutcome (Received.given (gatherOf haves stores room .gathered .number) 0) room
   pub of-inquiry-from-intake : (have : ℕ) (store command signature texts reply room sense : List ℕ) → Refused (inquiryOf have store command signature texts reply room sense .answer .number) → inquiryOf have store command signature texts reply room sense ≡ Inquiry.refused (inquiryOf have store command signature texts reply room sense .answer .number) room sense
   pub of-roll-of-intakes : (haves stores room rows : List ℕ) → Refused (rollOf haves stores room rows .counted .number) → rollOf haves stores room rows ≡ Received.outcome (record { number = rollOf haves stores room rows .counted .number; blocks = 0; drives = 0 }) room rows
+
+-- A block that passes: it is not damaged.
+abbrev pub Passes : List ℕ → Type 0
+Passes block = damaged block ≡ false
+
+-- Some block of a run is damaged.
+abbrev pub SomeDamaged : List ℕ → Type 0
+SomeDamaged bytes = (i : ℕ) × (i < length bytes / 512) × (damaged (blockAt bytes i) ≡ true)
+
+-- What is lent to a roll has a size that it takes: whole blocks, 64 of them at most, and an entry of room for each.
+pub record RollSized (bytes : List ℕ) (entries : ℕ) : Type 0 where
+  pub whole : length bytes % 512 ≡ 0
+  pub few : length bytes ≤ 32768
+  pub enough : length bytes / 512 ≤ entries
+
+-- Where no size is wrong, a damaged block is refused with 18 and no status whatever else is asked, and nothing lent changes.
+pub record DamagedIsRefused : Type 0 where
+  pub of-inquiry : (q : Request) (room sense : List ℕ) → wrongSize (q .block) (q .signature) (q .texts) (length sense) ≡ false → damaged (q .block) ≡ true → inquiry q room sense ≡ Inquiry.outcome (record { number = 18; status = noStatus; shown = 1; count = 0 }) room sense
+  pub of-write : (block room : List ℕ) → damaged block ≡ true → write block room ≡ Page83.outcome (record { number = 18; count = 0 }) room
+  pub of-roll : (bytes room : List ℕ) → RollSized bytes (length room) → SomeDamaged bytes → roll bytes room ≡ Roll.outcome (record { number = 18; blocks = 0; drives = 0 }) room
+  pub of-gather : (haves stores room : List ℕ) → wrongRun haves (length stores) ≡ false → SomeDamaged (gathered haves stores) → gatherOf haves stores room ≡ Received.gatherOutcome (Received.given 18 0) room
+  pub of-inquiry-from-intake : (have : ℕ) (store command signature texts reply room sense : List ℕ) → wrongIntake have (length store) ≡ false → wrongSize (blockOf have store) signature texts (length sense) ≡ false → damaged (blockOf have store) ≡ true → inquiryOf have store command signature texts reply room sense ≡ Inquiry.outcome (record { number = 18; status = noStatus; shown = 1; count = 0 }) room sense
+  pub of-roll-of-intakes : (haves stores room rows : List ℕ) → wrongRun haves (length stores) ≡ false → RollSized (gathered haves stores) (length rows) → SomeDamaged (gathered haves stores) → rollOf haves stores room rows ≡ Received.outcome (record { number = 18; blocks = 0; drives = 0 }) room rows
 
 -- No reply passes the allocation length.
 abbrev pub WithinAllocation : Type 0
@@ -217,7 +243,16 @@ SameDriveByWords = (a b : List ℕ) → Bytes a → Bytes b → length a ≡ 512
 abbrev pub rowAt : List ℕ → List ℕ → ℕ → ℕ
 rowAt bytes room i = getD (roll bytes room .room) i 0
 
--- Of an accepted roll:
+-- Blocks that a roll takes: their sizes are right, and every one passes.
+pub record Rollable (bytes room : List ℕ) : Type 0 where
+  pub sized : RollSized bytes (length room)
+  pub pass : (i : ℕ) → i < length bytes / 512 → Passes (blockAt bytes i)
+
+-- Those it accepts, and no others.
+abbrev pub RollAccepts : Type 0
+RollAccepts = (bytes room : List ℕ) → (roll bytes room .counted .number ≡ 0) ↔ Rollable bytes room
+
+-- Of their roll:
 pub record Rolled (bytes room : List ℕ) : Type 0 where
   -- every block of 512 bytes is counted;
   pub blocks : roll bytes room .counted .blocks ≡ length bytes / 512
@@ -233,22 +268,40 @@ pub record Rolled (bytes room : List ℕ) : Type 0 where
   pub as-many-entries : length (roll bytes room .room) ≡ length room
 
 abbrev pub RollOfDrives : Type 0
-RollOfDrives = (bytes room : List ℕ) → roll bytes room .counted .number ≡ 0 → Rolled bytes room
+RollOfDrives = (bytes room : List ℕ) → Rollable bytes room → Rolled bytes room
 
--- The pages of two blocks are equal exactly when they are the same drive: as the writer leaves them,
+-- A block that the writer takes: it has 512 bytes and passes, and the room holds its page.
+pub record Writable (block room : List ℕ) : Type 0 where
+  pub whole : length block ≡ 512
+  pub passes : Passes block
+  pub enough : length (page83 block) ≤ length room
+
+-- It accepts those, and no others.
+abbrev pub WriterAccepts : Type 0
+WriterAccepts = (block room : List ℕ) → (write block room .written .number ≡ 0) ↔ Writable block room
+
+-- The pages of two blocks that pass are equal exactly when they are the same drive: as the writer leaves them,
 abbrev pub PagesOfTheWriter : Type 0
-PagesOfTheWriter = (a b room other : List ℕ) → write a room .written .number ≡ 0 → write b other .written .number ≡ 0 → (left (write a room) ≡ left (write b other)) ↔ (sameDrive a b ≡ true)
+PagesOfTheWriter = (a b room other : List ℕ) → Writable a room → Writable b other → (left (write a room) ≡ left (write b other)) ↔ (sameDrive a b ≡ true)
 
--- A drive that is no packet drive is asked for its complete page 83h.
-pub record AsksItsName (q : Request) : Type 0 where
+-- A drive that is no packet drive, and whose block passes, is asked for its complete page 83h.
+pub record AsksItsName (q : Request) (room sense : List ℕ) : Type 0 where
+  pub block : Writable (q .block) room
+  pub signature : length (q .signature) ≡ 20
+  pub texts : length (q .texts) ≡ 28
+  pub sense-room : 22 ≤ length sense
+  pub whole-command : 6 ≤ length (q .command)
+  pub opcode : getD (q .command) 0 0 ≡ 0x12
+  pub no-naca : naca (q .command) ≡ false
+  pub no-cmddt : cmddt (q .command) ≡ false
   pub disk : isPacket q ≡ false
   pub page-asked : evpd (q .command) ≡ true
   pub page-83h : pageCode (q .command) ≡ 0x83
   pub complete : 76 ≤ allocation (q .command)
 
--- and as INQUIRY shows them.
+-- and as INQUIRY, which then accepts, shows them.
 abbrev pub PagesOfInquiry : Type 0
-PagesOfInquiry = (q r : Request) (room sense other-room other-sense : List ℕ) → AsksItsName q → AsksItsName r → inquiry q room sense .answer .number ≡ 0 → inquiry r other-room other-sense .answer .number ≡ 0 → (shown q (inquiry q room sense) ≡ shown r (inquiry r other-room other-sense)) ↔ (sameDrive (q .block) (r .block) ≡ true)
+PagesOfInquiry = (q r : Request) (room sense other-room other-sense : List ℕ) → AsksItsName q room sense → AsksItsName r other-room other-sense → (inquiry q room sense .answer .number ≡ 0) × (inquiry r other-room other-sense .answer .number ≡ 0) × ((shown q (inquiry q room sense) ≡ shown r (inquiry r other-room other-sense)) ↔ (sameDrive (q .block) (r .block) ≡ true))
 
 -- ## The intake: a stream in runs
 
@@ -279,11 +332,16 @@ InquiryFromAStream = (store : List ℕ) → length store ≡ 512 → (rs : List 
 abbrev pub RollOfStreams : Type 0
 RollOfStreams = (bays : List Bay) → Stores bays → (room rows : List ℕ) → length (blocksOf bays) ≤ length room → (rollOf (havesOf bays) (storesOf bays) room rows .counted ≡ roll (blocksOf bays) rows .counted) × (rollOf (havesOf bays) (storesOf bays) room rows .rows ≡ roll (blocksOf bays) rows .room)
 
+-- The sum that an intake carries along decides of its block what the block's own sum decides of it; before there is a block, of none.
+abbrev pub CarriedSum : Type 0
+CarriedSum = (store : List ℕ) → length store ≡ 512 → (rs : List (List ℕ)) → damagedBy (runs (begin store) rs .intake .sum) (blockOf (runs (begin store) rs .intake .have) (runs (begin store) rs .store)) ≡ damaged (blockIn (stream rs))
+
 -- ## All of them
 
 pub record Promises : Type 0 where
   pub one-outcome : OneOutcome
   pub refusals-change-nothing : RefusalsChangeNothing
+  pub damaged-is-refused : DamagedIsRefused
   pub within-allocation : WithinAllocation
   pub cut-again : CutAgain
   pub soundings-hold : SoundingsHold
@@ -296,9 +354,12 @@ pub record Promises : Type 0 where
   pub reads-back : ReadsBack
   pub accepted-is-written : AcceptedIsWritten
   pub same-drive-by-words : SameDriveByWords
+  pub roll-accepts : RollAccepts
   pub roll-of-drives : RollOfDrives
+  pub writer-accepts : WriterAccepts
   pub pages-of-the-writer : PagesOfTheWriter
   pub pages-of-inquiry : PagesOfInquiry
   pub stream-of-runs : StreamOfRuns
   pub inquiry-from-a-stream : InquiryFromAStream
   pub roll-of-streams : RollOfStreams
+  pub carried-sum : CarriedSum
