@@ -62,7 +62,9 @@ extern "C" {
 /*
  * Refusal numbers, each with its status, key, ASC and ASCQ if it has them, and when it is given. A refusal changes nothing that was
  * lent, but for the sense room where there is a key: its first eight bytes then are 72h, key, ASC, ASCQ, 00 00 00 00. They are
- * checked in this order: 1, no command bytes (2), 3, too few command bytes (2), then 4 upward.
+ * checked in this order: 1, 18, no command bytes (2), 3, too few command bytes (2), then 4 upward. A block is damaged if it has 512
+ * bytes, the low byte of its word 255 (byte 510) is A5h, and its bytes do not sum to 0 modulo 256; where one is lent, nothing of it is
+ * used. No function asks the sum that an intake carries: each sums the block itself.
  */
 #define PIONGSEUT_ACCEPTED 0                 /*                no refusal; each function says the status */
 #define PIONGSEUT_REFUSED_SIZE 1             /* none           a lent piece has a wrong size (said at each function) */
@@ -81,6 +83,7 @@ extern "C" {
 #define PIONGSEUT_REFUSED_ABOVE_DECLARED 14  /* 02h, 05 24 00  a length above the host's declared length */
 #define PIONGSEUT_REFUSED_NOTHING_PENDING 15 /* none           completion while nothing is pending */
 #define PIONGSEUT_REFUSED_NOT_A_PAGE 16      /* none           a page 83h that the writer cannot make */
+#define PIONGSEUT_REFUSED_DAMAGED 18         /* none           a lent block is damaged */
 
 /* Sizes of what is lent, in bytes; of sense room the least. */
 #define PIONGSEUT_BLOCK_SIZE 512 /* an IDENTIFY block, and the store of an intake */
@@ -135,8 +138,8 @@ PIONGSEUT_HAS_SIZE(piongseut_inquiry_answer, 16)
  * 28 bytes: vendor (8), product (16), revision (4), for page 89h; and for a packet drive its own reply to this command, of any
  * size. Lent to write: the output room, and sense room of at least 22 bytes.
  * Back: what is shown, and how many bytes of it. No more than the allocation length are shown, and room past them is untouched.
- * Refusals: 1 (a block that is neither 512 nor 0 bytes, a signature not of 20, texts not of 28, sense room below 22), 2, 3, 4, 5,
- * 6, 7, 8. 4 to 6 are not given for packet drives.
+ * Refusals: 1 (a block that is neither 512 nor 0 bytes, a signature not of 20, texts not of 28, sense room below 22), 18 (a damaged
+ * block, whatever is asked), 2, 3, 4, 5, 6, 7, 8. 4 to 6 are not given for packet drives.
  */
 piongseut_inquiry_answer piongseut_inquiry(const uint8_t *command, size_t command_size,
                                            const uint8_t *block, size_t block_size,
@@ -262,7 +265,7 @@ typedef struct {
 } piongseut_write_page83_answer;
 PIONGSEUT_HAS_SIZE(piongseut_write_page83_answer, 16)
 
-/* Writes the page 83h of an IDENTIFY block. Refusals: 1 (a block not of 512 bytes), 8. */
+/* Writes the page 83h of an IDENTIFY block. Refusals: 1 (a block not of 512 bytes), 18, 8. */
 piongseut_write_page83_answer piongseut_write_page83(const uint8_t *block, size_t block_size,
                                                      uint8_t *room, size_t room_size);
 
@@ -292,7 +295,8 @@ PIONGSEUT_HAS_SIZE(piongseut_roll_answer, 6)
  * The roll of up to 64 IDENTIFY blocks of 512 bytes that stand one after the other in `blocks`. Lent to write: room for a row
  * number a block, `rows_size` entries. Rows run from 1 by first appearance; two blocks have the same row exactly if they are the
  * same drive; entries past the block count are untouched.
- * Refusal 1: blocks_size no multiple of 512 or above 32,768; fewer rows than blocks.
+ * Refusals: 1 (blocks_size no multiple of 512 or above 32,768; fewer rows than blocks), 18 (one of the blocks is damaged: the roll
+ * is refused whole, and no row is written).
  */
 piongseut_roll_answer piongseut_roll(const uint8_t *blocks, size_t blocks_size, uint16_t *rows, size_t rows_size);
 
@@ -305,7 +309,7 @@ piongseut_roll_answer piongseut_roll(const uint8_t *blocks, size_t blocks_size, 
  */
 typedef struct {
     uint16_t have; /* bytes that it has; more than 512 is refused */
-    uint16_t sum;  /* their sum modulo 256, counted on from the sum that was handed in */
+    uint16_t sum;  /* their sum modulo 256, counted on from the sum that was handed in; no function asks it */
 } piongseut_intake;
 PIONGSEUT_HAS_SIZE(piongseut_intake, 4)
 
@@ -353,7 +357,8 @@ PIONGSEUT_HAS_SIZE(piongseut_intake_gather_answer, 16)
  * how many bytes each intake has, and their stores one after the other, 512 bytes each. Lent to write: room, where the blocks come
  * to stand one after the other; the rest of it is untouched.
  * Back: how many bytes of blocks stand in the room. Lend the first `count` bytes to piongseut_roll.
- * Refusals: 1 (stores of another size than 512 bytes an intake; an intake that claims more than 512), 8 (room below the blocks).
+ * Refusals: 1 (stores of another size than 512 bytes an intake; an intake that claims more than 512), 18 (the block of a complete
+ * intake is damaged; the stores of others are not asked), 8 (room below the blocks).
  */
 piongseut_intake_gather_answer piongseut_intake_gather(const uint16_t *haves, size_t intake_count,
                                                        const uint8_t *stores, size_t stores_size,

@@ -1,6 +1,6 @@
 // Feed: an IDENTIFY block off the wire. The input is runs, each of two length bytes, high byte first, and that many bytes. They
 // go into an intake one after another; then come three lines: in which run the intake was complete and after how many bytes of it,
-// how many bytes it used in all, and the name that the block's page 83h tells.
+// how many bytes it used in all, and the name that the block's page 83h tells, or that the block is damaged.
 use input::Wanted;
 use intake::Intake;
 use libc::STDERR_FILENO;
@@ -167,6 +167,9 @@ fn say_page(page: &[u8], count: usize) -> bool {
 fn say_block(block: &[u8]) -> bool {
     let mut page = [0u8; 76];
     let written = page83::write(block, &mut page);
+    if written.number == 18 {
+        return say(b"damaged block\n");
+    }
     if written.number != 0 {
         return say(b"no block\n");
     }
@@ -201,8 +204,8 @@ fn say_help() -> bool {
     say(
         b"usage: feed [FILE ..] | --help | --version\n\
         Takes runs of an IDENTIFY block off the wire, and prints in which run the block was complete and after how many\n\
-        bytes of it, how many bytes were used in all, and the name that the block's page 83h tells. A byte of a text that is not\n\
-        printable is shown as \\x and two hexadecimal digits, a backslash as two.\n\
+        bytes of it, how many bytes were used in all, and the name that the block's page 83h tells, or: damaged block. A byte of\n\
+        a text that is not printable is shown as \\x and two hexadecimal digits, a backslash as two.\n\
         Input: runs, in all up to 65536 bytes: each has two length bytes, high byte first, and that many bytes.\n\
         It is the files, one behind the other, or standard input where no file is named.\n\
         Example: ./run feed crates/feed/stdin\n",

@@ -1,7 +1,8 @@
 // Inquiries: what the board answers to INQUIRY, a line for each answer. For each IDENTIFY block of 512 bytes of the input the
 // board is asked for standard data, for pages 00h, 80h, 83h and 89h, and for page 83h again with allocation length 5; at the
 // end for page 00h and standard data of one packet drive, whose own replies stand below. A line has the place, the page, the
-// refusal number, the status, the count, and the served bytes in hexadecimal. The stored output was checked with sg_inq and
+// refusal number, the status, the count, and the served bytes in hexadecimal: a damaged block has number 18 in each of its lines, and
+// no bytes. The stored output was checked with sg_inq and
 // sg_vpd of sg3-utils 1.46: the names, texts and words that they decode from it are those of the blocks.
 use input::Wanted;
 use libc::STDERR_FILENO;
@@ -150,7 +151,7 @@ fn say_help() -> bool {
     say(
         b"usage: inquiries [FILE ..] | --help | --version\n\
         Prints what the board answers to INQUIRY, for each block and for one packet drive: its place from 0, the page, the\n\
-        refusal number, the status, the count, and the served bytes in hexadecimal.\n\
+        refusal number, the status, the count, and the served bytes in hexadecimal. A damaged block has number 18.\n\
         Input: up to 64 IDENTIFY blocks of 512 bytes each.\n\
         It is the files, one behind the other, or standard input where no file is named.\n\
         Example: ./run inquiries data/identify/*.bin\n",

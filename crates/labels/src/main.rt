@@ -1,10 +1,11 @@
 // Labels: for each IDENTIFY block of 512 bytes that it is given a line with its place, its model, serial number and firmware as the
-// board shows texts, its world wide name, and its drive's row in the roll, which is the row that `rollcall` prints.
+// board shows texts, its world wide name, and its drive's row in the roll, which is the row that `rollcall` prints. Of a damaged block,
+// which is not used, it says so; the roll is then that of the others.
 use input::Wanted;
 use libc::STDERR_FILENO;
 use libc::STDOUT_FILENO;
 ghost use mathlib.Core.Path.{_≡_};
-ghost use Prim.Native.Nat.{_%_, _≤_};
+ghost use Prim.Native.Nat.{_+_, _%_, _≤_};
 ghost use lib.ListN.{length};
 
 // Every function that says something answers whether all of it was written.
@@ -90,19 +91,70 @@ fn label(i: usize, block: &[u8], row: u16) -> bool
         && say(b"\n")
 }
 
-// A line for each block; none behind one that could not be written.
+// The label of a block that is used.
+fn line(i: usize, block: &[u8], row: u16) -> bool
+    requires { ⌜ length (now block) ≡ 512 ⌝ }
+{
+    if checksum::damaged(block) {
+        return say_number(i as u64) && say(b" damaged\n");
+    }
+    label(i, block, row)
+}
+
+// 1 for a block that is used: it takes a row.
+fn rows_of(block: &[u8]) -> usize
+    ensures { λ r. ⌜ r ≤ 1 ⌝ }
+{
+    if checksum::damaged(block) {
+        return 0;
+    }
+    1
+}
+
+// A line for each block; none behind one that could not be written. The rows are those of the blocks that are used.
 fn labels(blocks: &[u8], rows: &[u16; 64]) -> bool
     requires { ⌜ length (now blocks) ≤ 32768 ⌝ }
 {
     let count = blocks.len() / 512;
+    let mut next = 0;
     let mut i = 0;
     while i < count {
-        if !label(i, roll::block_at(blocks, i), rows[i]) {
+        let block = roll::block_at(blocks, i);
+        if !line(i, block, rows[next]) {
             return false;
         }
+        next += rows_of(block);
         i += 1;
     }
     true
+}
+
+// Puts a block that is used at its place, and gives the next place.
+fn keep(room: &mut [u8], at: usize, block: &[u8]) -> usize
+    requires { ⌜ at ≤ 32768 ⌝ }
+    ensures { λ r. ⌜ r ≤ at + 512 ⌝ }
+{
+    if checksum::damaged(block) {
+        return at;
+    }
+    room::put(room, at, block);
+    at + 512
+}
+
+// Puts the blocks that are used one behind the other, and gives how many bytes they are.
+fn used(blocks: &[u8], room: &mut [u8]) -> usize
+    requires { ⌜ length (now blocks) ≤ 32768 ⌝ }
+    ensures count { λ r. ⌜ r ≤ 32768 ⌝ }
+    ensures room { λ _. ⌜ length (now (room .exit)) ≡ length (now (room .entry)) ⌝ }
+{
+    let count = blocks.len() / 512;
+    let mut at = 0;
+    let mut i = 0;
+    while i < count {
+        at = keep(room, at, roll::block_at(blocks, i));
+        i += 1;
+    }
+    at
 }
 
 // A line for each block, or a complaint of input that is not such blocks.
@@ -111,12 +163,14 @@ fn list(blocks: &[u8]) -> bool {
         complain(b"more than 64 blocks");
         return true;
     }
-    let mut rows = [0u16; 64];
-    let counted = roll::roll(blocks, &mut rows);
-    if counted.number != 0 {
+    if blocks.len() % 512 != 0 {
         complain(b"the input is no whole number of blocks of 512 bytes");
         return true;
     }
+    let mut room = [0u8; 32768];
+    let n = used(blocks, &mut room);
+    let mut rows = [0u16; 64];
+    roll::roll(&room[..n], &mut rows);
     labels(blocks, &rows)
 }
 
@@ -124,7 +178,8 @@ fn say_help() -> bool {
     say(
         b"usage: labels [FILE ..] | --help | --version\n\
         Prints for each block its place from 0, its model, serial number and firmware, its world wide name, and its drive's\n\
-        row. A byte of a text that is not printable is shown as \\x and two hexadecimal digits, a backslash as two.\n\
+        row; of a damaged block, that it is damaged. A byte of a text that is not printable is shown as \\x and two\n\
+        hexadecimal digits, a backslash as two.\n\
         Input: up to 64 IDENTIFY blocks of 512 bytes each.\n\
         It is the files, one behind the other, or standard input where no file is named.\n\
         Example: ./run labels data/identify/*.bin\n",

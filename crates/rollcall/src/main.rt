@@ -1,6 +1,7 @@
 // Rollcall: prints the roll of the IDENTIFY blocks of 512 bytes that it is given. The first line says how many blocks and how
 // many drives there are; then comes a line for each block with its place from 0, its row, and what tells its drive: `wwn`
-// where the block carries a world wide name, `text` where model and serial number do. Input that is no roll is `refused 1`.
+// where the block carries a world wide name, `text` where model and serial number do. Input that is no roll is `refused 1`, and a roll
+// with a damaged block `refused 18`.
 use input::Wanted;
 use libc::STDERR_FILENO;
 use libc::STDOUT_FILENO;
@@ -82,7 +83,7 @@ fn say_help() -> bool {
     say(
         b"usage: rollcall [FILE ..] | --help | --version\n\
         Prints the roll: how many blocks and drives there are; then for each block its place from 0, its drive's row, and\n\
-        what tells the drive, wwn or text. Input that is no roll is: refused 1\n\
+        what tells the drive, wwn or text. Input that is no roll is: refused 1; with a damaged block: refused 18\n\
         Input: up to 64 IDENTIFY blocks of 512 bytes each.\n\
         It is the files, one behind the other, or standard input where no file is named.\n\
         Example: ./run rollcall data/identify/*.bin\n",

@@ -1,14 +1,14 @@
--- `labels`: each block once.
+-- `labels`: each block once, and no more rows than blocks.
 use Prim.Native.Nat.{_≤_, _-_}
 use borrow.Author.Needs.{needs}
 use Rattle.labels.proofs.labels.Statement.{statement}
 use Rattle.labels.proofs.labels.Tie as tie
 
 abbrev Inv-loop : tie.InvT-loop
-Inv-loop blocks rows count i₀ i = i ≤ count
+Inv-loop blocks rows count next₀ i₀ next i = (i ≤ count) × (next ≤ i)
 
 abbrev μ-loop : tie.MeasureT-loop
-μ-loop blocks rows count i₀ i = count - i
+μ-loop blocks rows count next₀ i₀ next i = count - i
 
 loop-holds : tie.Need-loop-holds Inv-loop μ-loop
 loop-holds c = search needs
@@ -16,17 +16,23 @@ loop-holds c = search needs
 block-at-requires : tie.Need-block-at-requires Inv-loop μ-loop
 block-at-requires c κs = search needs
 
-mul-label : tie.Need-mul-label Inv-loop μ-loop
-mul-label c = search needs
+mul-line : tie.Need-mul-line Inv-loop μ-loop
+mul-line c = search needs
 
-element-copy-out-label : tie.Need-element-copy-out-label Inv-loop μ-loop
-element-copy-out-label c = search needs
+element-copy-out-line : tie.Need-element-copy-out-line Inv-loop μ-loop
+element-copy-out-line c = search needs
 
-label-requires : tie.Need-label-requires Inv-loop μ-loop
-label-requires c κs = search needs
+line-requires : tie.Need-line-requires Inv-loop μ-loop
+line-requires c κs = search needs
 
 returns : tie.Need-returns Inv-loop μ-loop
 returns c = search needs
+
+rows-of-requires : tie.Need-rows-of-requires Inv-loop μ-loop
+rows-of-requires c κs = search needs
+
+add-next : tie.Need-add-next Inv-loop μ-loop
+add-next c = search needs
 
 add-i : tie.Need-add-i Inv-loop μ-loop
 add-i c = search needs
@@ -48,10 +54,12 @@ labels-spec =
     μ-loop
     loop-holds
     block-at-requires
-    mul-label
-    element-copy-out-label
-    label-requires
+    mul-line
+    element-copy-out-line
+    line-requires
     returns
+    rows-of-requires
+    add-next
     add-i
     loop-less
     loop-again

@@ -1,14 +1,15 @@
 -- `say_roll`: as many blocks and rows as the roll counts.
 use mathlib.Core.Path.{_≡_, refl, ap, _∙_}
-use mathlib.Core.Bool.{Bool, true, false, cond, not}
+use mathlib.Core.Bool.{Bool, true, false}
 use mathlib.Core.List.{List}
-use Prim.Native.Nat.{ℕ, _*_, _/_, _%_, _≤_}
+use Prim.Native.Nat.{ℕ, _*_, _/_, _≤_}
 use native.Mathlib.Omega.{arith}
-use lib.Dec.{eqb, ltb}
+use lib.Dec.{eqb}
 use lib.ListN.{length}
-use Rattle.roll.specs.Roll.{Outcome, outcome, refusalOf, roll}
+use Rattle.roll.specs.Roll.{checks, Outcome, outcome, refusalOf, roll}
 use Rattle.roll.specs.declared.Counted.{Counted}
 use borrow.Author.Tests.{eqb-true, ltb-false}
+use Rattle.rules.proofs.First.{silent}
 use borrow.Author.Needs.{needs}
 use Rattle.rollcall.proofs.say_roll.Statement.{statement}
 use Rattle.rollcall.proofs.say_roll.Tie as tie
@@ -16,13 +17,7 @@ use Rattle.rollcall.proofs.say_roll.Tie as tie
 -- A run that is not refused has a row for each block.
 enough : (bytes : List ℕ) (room : ℕ) → refusalOf bytes room ≡ 0 → length bytes / 512 ≤ room
 unfolding refusalOf
-enough bytes room e = by (not (eqb (length bytes % 512) 0)) (ltb 32768 (length bytes)) (ltb room (length bytes / 512)) refl e
-  where
-    by : (ragged long short : Bool) → ltb room (length bytes / 512) ≡ short → cond {A = ℕ} ragged 1 (cond long 1 (cond short 1 0)) ≡ 0 → length bytes / 512 ≤ room
-    by true long short h e = omega arith
-    by false true short h e = omega arith
-    by false false true h e = omega arith
-    by false false false h e = ltb-false _ _ h
+enough bytes room e = ltb-false _ _ (silent (checks bytes room) refl e .1 .1 .0)
 
 -- The blocks that a roll counts all stand in the run, and there is a row for each; a refused roll counts none.
 fits : (r : Counted) (bytes room after : List ℕ) → outcome r after ≡ roll bytes room → (512 * r .blocks ≤ length bytes) × (r .blocks ≤ length room)
