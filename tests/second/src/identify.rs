@@ -83,6 +83,36 @@ fn spoilt_says(block: &[u8], says: bool) -> bool {
     says || taken_too
 }
 
+/// Whether a cable changed the block: a drive that puts A5h into its byte 510
+/// makes its 512 bytes sum to 0 (RULES 5). Of a block without A5h that cannot
+/// be told, and an absent one has nothing to be told of.
+pub fn is_damaged(block: &[u8]) -> bool {
+    if block.is_empty() && fault::planted("damage-of-an-absent-block") {
+        return true;
+    }
+    block.len() == 512 && has_checksum(block) && !sum_is_right(block)
+}
+
+fn has_checksum(block: &[u8]) -> bool {
+    let [high, low] = word(block, 255).to_be_bytes();
+    if fault::planted("damage-marked-in-byte-511") {
+        return high == 0xA5;
+    }
+    low == 0xA5 || fault::planted("damage-without-the-mark")
+}
+
+fn sum_is_right(block: &[u8]) -> bool {
+    let summed = if fault::planted("damage-summed-over-511") {
+        &block[..511]
+    } else {
+        block
+    };
+    let sum = summed.iter().map(|&byte| u32::from(byte)).sum::<u32>() % 256;
+    sum == 0
+        || (sum == 1 && fault::planted("damage-sum-1-taken"))
+        || (sum == 255 && fault::planted("damage-sum-255-taken"))
+}
+
 /// What a text that is spaced has for this byte.
 pub fn space_for_zero(byte: u8) -> u8 {
     if byte == 0x00 {

@@ -1,5 +1,6 @@
 //! INQUIRY (RULES 4), for packet drives too (RULES 7).
 
+use crate::identify::is_damaged;
 use crate::packet::is_packet_drive;
 use crate::{fault, lent, packet, page83, pages, refusal};
 
@@ -44,8 +45,14 @@ pub fn inquiry(
     room: &mut [u8],
     sense: &mut [u8],
 ) -> Inquiry {
+    if fault::planted("damage-before-sizes") && is_damaged(block) {
+        return refuse(refusal::DAMAGED, sense);
+    }
     if !sizes_are_right(block, signature, texts, sense) {
         return refuse(refusal::SIZE, sense);
+    }
+    if block_is_refused(command, block, signature) {
+        return refuse(refusal::DAMAGED, sense);
     }
     if fault::planted("inquiry-refuses-all") {
         return refuse(refusal::FIELD, sense);
@@ -71,6 +78,17 @@ fn the_drive_answered_for(block: &[u8]) -> &[u8] {
         return &pages::NO_BLOCK;
     }
     block
+}
+
+/// 18: a damaged block answers for nothing, whatever is asked and of whatever
+/// drive (RULES 4). And the planted faults of that.
+fn block_is_refused(command: &[u8], block: &[u8], signature: &[u8]) -> bool {
+    if fault::planted("inquiry-takes-damage") {
+        return false;
+    }
+    let unasked = (fault::planted("damage-after-the-empty-command") && command.is_empty())
+        || (fault::planted("damage-not-of-packet-drives") && is_packet_drive(signature));
+    is_damaged(block) && !unasked
 }
 
 /// The reply and the output room may have any size (RULES 1).

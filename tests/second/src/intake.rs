@@ -1,5 +1,6 @@
 //! The intake (RULES 12): IDENTIFY data taken as it comes off the wire.
 
+use crate::identify::is_damaged;
 use crate::{fault, refusal};
 
 /// An intake with so many bytes is complete.
@@ -130,6 +131,9 @@ pub fn block_size(intake: Intake, store_size: usize) -> Counted {
     if !is_right(intake.have, store_size) || asked_to_be_complete {
         return refused(refusal::SIZE);
     }
+    if fault::planted("block-asks-the-carried-sum") && have == BLOCK && intake.sum != 0 {
+        return refused(refusal::DAMAGED);
+    }
     if fault::planted("block-of-what-it-has") {
         return counted(have);
     }
@@ -145,6 +149,9 @@ pub fn gather(haves: &[u16], stores: &[u8], room: &mut [u8]) -> Counted {
         return refused(refusal::SIZE);
     }
     let blocks = blocks_of(haves, stores);
+    if one_is_damaged(&blocks, stores, room.len()) {
+        return refused(refusal::DAMAGED);
+    }
     if fault::planted("gather-limits-to-64") && blocks.len() > 64 * BLOCK {
         return refused(refusal::SIZE);
     }
@@ -154,6 +161,19 @@ pub fn gather(haves: &[u16], stores: &[u8], room: &mut [u8]) -> Counted {
     }
     room[..blocks.len()].copy_from_slice(&blocks);
     spoil(haves, blocks.len(), room)
+}
+
+/// 18: the roll would refuse them. A store whose intake is not complete is no
+/// block, and what is in it is not asked. And the planted faults of that.
+fn one_is_damaged(blocks: &[u8], stores: &[u8], room: usize) -> bool {
+    let asked = if fault::planted("damage-of-incomplete-stores") {
+        stores
+    } else {
+        blocks
+    };
+    let unasked = fault::planted("gather-takes-damage")
+        || (fault::planted("gather-asks-damage-after-room") && room < blocks.len());
+    asked.chunks(BLOCK).any(is_damaged) && !unasked
 }
 
 /// The complete intakes' blocks, one behind the other.

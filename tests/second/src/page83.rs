@@ -1,6 +1,8 @@
 //! Page 83h, the identification page: its writer and its reader (RULES 6.4).
 
-use crate::identify::{has_name, spaces_for_zeros, turned_model, turned_name, turned_serial};
+use crate::identify::{
+    has_name, is_damaged, spaces_for_zeros, turned_model, turned_name, turned_serial,
+};
 use crate::pages::VENDOR;
 use crate::{fault, refusal};
 
@@ -62,6 +64,11 @@ pub fn write_page83(block: &[u8], room: &mut [u8]) -> Written {
         return refuse_writing(refusal::ROOM);
     }
     let page = page83(block);
+    // A damaged block may name another drive (RULES 6.4).
+    let room_first = fault::planted("write-asks-damage-after-room") && room.len() < page.len();
+    if is_damaged(block) && !room_first && !fault::planted("write-takes-damage") {
+        return refuse_writing(refusal::DAMAGED);
+    }
     if room.len() < page.len() {
         return refuse_writing(refusal::ROOM);
     }

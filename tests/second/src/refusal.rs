@@ -1,6 +1,8 @@
 //! The numbers that come back (RULES 2), the table of refusals (RULES 3) and a
 //! refusal's sense data (RULES 10).
 
+use crate::fault;
+
 pub const GOOD: u8 = 0x00;
 pub const CHECK_CONDITION: u8 = 0x02;
 pub const BUSY: u8 = 0x08;
@@ -40,11 +42,13 @@ pub const ABOVE_DECLARED: u8 = 14;
 pub const NOTHING_PENDING: u8 = 15;
 /// No drive has this page 83h.
 pub const NOT_A_PAGE: u8 = 16;
+/// The block's bytes are not those that the drive sent.
+pub const DAMAGED: u8 = 18;
 
 /// The column Status of the table.
 pub fn status(number: u8) -> u8 {
     match number {
-        SIZE | ROOM | NOTHING_PENDING | NOT_A_PAGE => NO_STATUS,
+        SIZE | ROOM | NOTHING_PENDING | NOT_A_PAGE | DAMAGED => NO_STATUS,
         PENDING => BUSY,
         _ => CHECK_CONDITION,
     }
@@ -64,6 +68,7 @@ pub fn key_asc_ascq(number: u8) -> Option<[u8; 3]> {
         T_DIR => Some([0x05, 0x24, 0x00]),
         LENGTH_ZERO => Some([0x05, 0x24, 0x00]),
         ABOVE_DECLARED => Some([0x05, 0x24, 0x00]),
+        DAMAGED if fault::planted("damage-told-in-sense") => Some([0x0B, 0x00, 0x00]),
         _ => None,
     }
 }

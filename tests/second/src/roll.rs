@@ -1,6 +1,6 @@
 //! The roll of drives, and the text of the program `rollcall` (RULES 11).
 
-use crate::identify::{has_name, has_name_bits, space_for_zero, word};
+use crate::identify::{has_name, has_name_bits, is_damaged, space_for_zero, word};
 use crate::{fault, refusal};
 
 const BLOCK: usize = 512;
@@ -17,13 +17,13 @@ pub struct Roll {
 /// free number.
 pub fn roll(blocks: &[u8], rows: &mut [u16]) -> Roll {
     if !sizes_are_right(blocks, rows) || fault::planted("roll-refuses-all") {
-        return Roll {
-            number: refusal::SIZE,
-            blocks: 0,
-            drives: 0,
-        };
+        return refuse(refusal::SIZE);
     }
     let blocks: Vec<&[u8]> = blocks.chunks(BLOCK).collect();
+    if one_is_damaged(&blocks) {
+        spoil_refused(&blocks, rows);
+        return refuse(refusal::DAMAGED);
+    }
     let lent = rows.to_vec();
     let mut drives = 0;
     for at in 0..blocks.len() {
@@ -40,6 +40,37 @@ pub fn roll(blocks: &[u8], rows: &mut [u16]) -> Roll {
         number: refusal::ACCEPTED,
         blocks: blocks.len() as u16,
         drives,
+    }
+}
+
+fn refuse(number: u8) -> Roll {
+    Roll {
+        number,
+        blocks: 0,
+        drives: 0,
+    }
+}
+
+/// 18: the roll is refused whole, since a damaged block would be a drive that
+/// is not there (RULES 11). And the planted faults of that.
+fn one_is_damaged(blocks: &[&[u8]]) -> bool {
+    let asked = match blocks.len() {
+        0 => blocks,
+        _ if fault::planted("roll-takes-damage") => &[],
+        _ if fault::planted("damage-of-the-first-block") => &blocks[..1],
+        last if fault::planted("damage-of-the-last-block") => &blocks[last - 1..],
+        _ => blocks,
+    };
+    asked.iter().any(|block| is_damaged(block))
+}
+
+/// The planted fault of a roll that has rows before it meets the damaged block.
+fn spoil_refused(blocks: &[&[u8]], rows: &mut [u16]) {
+    if fault::planted("damage-found-after-rows") {
+        let sound = blocks.iter().take_while(|block| !is_damaged(block));
+        (1..)
+            .zip(sound)
+            .for_each(|(row, _)| rows[row - 1] = row as u16);
     }
 }
 

@@ -313,6 +313,7 @@ pub fn row(number: u8) -> (u8, Option<[u8; 3]>) {
         14 => (0x02, Some([0x05, 0x24, 0x00])),
         15 => (0xFF, None),
         16 => (0xFF, None),
+        18 => (0xFF, None),
         _ => panic!("no such row"),
     }
 }

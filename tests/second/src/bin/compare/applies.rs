@@ -12,16 +12,17 @@ pub type Set = u32;
 
 /// The pairs that can apply together, by function. The fields of a command
 /// that is short or has another opcode are not looked at.
-pub const PAIRS: [(u8, &[(usize, usize)]); 6] = [
+pub const PAIRS: [(u8, &[(usize, usize)]); 7] = [
     (INQUIRY, &IN_INQUIRY),
     (SUBMIT, &IN_SUBMIT),
     (COMPLETE, &[(1, 15)]),
-    (WRITE, &[(1, 8)]),
+    (WRITE, &[(1, 8), (8, 18)]),
+    (ROLL, &[(1, 18)]),
     (INTAKE_INQUIRY, &IN_INQUIRY),
-    (INTAKE_ROLL, &[(1, 8)]),
+    (INTAKE_ROLL, &[(1, 8), (1, 18), (8, 18)]),
 ];
 
-const IN_INQUIRY: [(usize, usize); 12] = [
+const IN_INQUIRY: [(usize, usize); 19] = [
     (1, 2),
     (1, 3),
     (1, 4),
@@ -34,6 +35,13 @@ const IN_INQUIRY: [(usize, usize); 12] = [
     (4, 8),
     (6, 8),
     (7, 8),
+    (1, 18),
+    (2, 18),
+    (3, 18),
+    (4, 18),
+    (5, 18),
+    (7, 18),
+    (8, 18),
 ];
 
 const IN_SUBMIT: [(usize, usize); 25] = [
@@ -69,6 +77,23 @@ fn set(conditions: &[(usize, bool)]) -> Set {
     held.fold(0, |set, (number, _)| set | 1 << number)
 }
 
+/// The refusal that answers: 1, then 18, then the lowest number; 2 and 3 never
+/// apply together.
+pub fn first(set: Set) -> u32 {
+    match set {
+        0 => 0,
+        _ if set >> 1 & 1 == 1 => 1,
+        _ if set >> 18 & 1 == 1 => 18,
+        _ => set.trailing_zeros(),
+    }
+}
+
+/// Whether a block of any size is damaged (RULES 5), read here once more.
+fn is_damaged(block: &[u8]) -> bool {
+    let sum = block.iter().fold(0_u8, |sum, &byte| sum.wrapping_add(byte));
+    block.len() == 512 && block[510] == 0xA5 && sum != 0
+}
+
 /// The refusals that apply to the call.
 pub fn to(call: &Call) -> Set {
     let sizes: Vec<usize> = call.pieces.iter().map(Vec::len).collect();
@@ -81,10 +106,17 @@ pub fn to(call: &Call) -> Set {
         ]),
         WRITE => {
             let size = page83_size(&call.pieces[0]);
-            set(&[(1, sizes[0] != 512), (8, sizes[1] < size)])
+            set(&[
+                (1, sizes[0] != 512),
+                (18, is_damaged(&call.pieces[0])),
+                (8, sizes[1] < size),
+            ])
         }
         READ => set(&[(16, second::read_page83(&call.pieces[0]).number != 0)]),
-        ROLL => set(&[(1, roll_is_refused(sizes[0], sizes[1] / 2))]),
+        ROLL => set(&[
+            (1, roll_is_refused(sizes[0], sizes[1] / 2)),
+            (18, call.pieces[0].chunks(512).any(is_damaged)),
+        ]),
         INTAKE_TAKE => set(&[(1, intake_is_refused(call))]),
         INTAKE_INQUIRY => set(&[(1, intake_is_refused(call))]) | to_its_block(call),
         INTAKE_ROLL => to_intakes(call, &sizes),
@@ -117,7 +149,9 @@ fn to_intakes(call: &Call, sizes: &[usize]) -> Set {
     let haves = numbers_in(&call.pieces[0]);
     let complete = haves.iter().filter(|&&have| have == 512).count();
     let wrong = haves.iter().any(|&have| have > 512) || sizes[1] != 512 * haves.len();
-    let gathering = set(&[(1, wrong), (8, sizes[2] < 512 * complete)]);
+    let mut blocks = call.pieces[1].chunks(512).zip(&haves);
+    let damaged = blocks.any(|(store, &have)| have == 512 && is_damaged(store));
+    let gathering = set(&[(1, wrong), (18, damaged), (8, sizes[2] < 512 * complete)]);
     if gathering != 0 {
         return gathering;
     }
@@ -139,6 +173,7 @@ fn to_inquiry(call: &Call, sizes: &[usize]) -> Set {
     let opcode = command.first() == Some(&0x12);
     let before = set(&[
         (1, wrong_size),
+        (18, is_damaged(&call.pieces[1])),
         (2, command.is_empty() || opcode && command.len() < 6),
         (3, !command.is_empty() && !opcode),
     ]);

@@ -13,6 +13,8 @@ use std::sync::mpsc::{sync_channel, Receiver, SyncSender};
 use std::sync::Arc;
 use std::thread::JoinHandle;
 
+/// Numbers below this one come back.
+pub const NUMBERS: usize = 19;
 /// A batch is sent when it has so many bytes.
 const BATCH: usize = 128 << 10;
 /// So many differences of a class are printed in full.
@@ -49,7 +51,7 @@ pub struct Board {
     stop_at_first: bool,
     pub classes: Vec<Class>,
     /// How often each function gave each number.
-    pub counts: [[u64; 17]; NAMES.len()],
+    pub counts: [[u64; NUMBERS]; NAMES.len()],
     /// The sets of refusals that applied to a call of each function.
     pub applied: Vec<HashSet<applies::Set>>,
     /// Calls that were not answered with the first refusal that applies.
@@ -89,7 +91,7 @@ impl Board {
             differs,
             stop_at_first,
             classes: Vec::new(),
-            counts: [[0; 17]; NAMES.len()],
+            counts: [[0; NUMBERS]; NAMES.len()],
             applied: vec![HashSet::new(); NAMES.len()],
             not_first: 0,
         })
@@ -128,14 +130,12 @@ impl Board {
         said
     }
 
-    /// Notes the number given. Of the refusals that apply, the lowest number
-    /// answers: 2 and 3 never apply together.
+    /// Notes the number given.
     fn count(&mut self, call: &Call, number: u8) {
         let function = usize::from(call.function);
         let set = applies::to(call);
-        let first = if set == 0 { 0 } else { set.trailing_zeros() };
         self.counts[function][usize::from(number)] += 1;
-        self.not_first += u64::from(first != u32::from(number));
+        self.not_first += u64::from(applies::first(set) != u32::from(number));
         self.applied[function].insert(set);
     }
 

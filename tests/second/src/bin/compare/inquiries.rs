@@ -22,14 +22,16 @@ pub fn refusals(board: &mut Board) {
     let replies: [&[u8]; 3] = [&[], &[5, 0, 9, 2, 0x80, 0x80], &[5, 0, 9, 2, 0x80, 0x90]];
     let signatures = [lent::plain_signature(), lent::packet_signature()];
     let sizes = [(28, 22), (28, 21), (27, 26), (29, 0)];
+    let whole = lent::holey_block();
+    let blocks = [&whole[..], &[], &whole[..511], &whole[..1]];
     for command in commands() {
-        for block in [512, 0, 511, 1] {
+        for block in blocks.into_iter().chain([&lent::damaged_block()[..]]) {
             for signature in signatures.iter().chain([&vec![0x14; 19]]) {
                 for reply in replies {
                     for space in [0, 7, 600] {
                         for (texts, sense) in sizes {
                             let call = lent::inquiry(&command)
-                                .piece(1, lent::holey_block()[..block].to_vec())
+                                .piece(1, block.to_vec())
                                 .piece(2, signature.clone())
                                 .piece(3, vec![0x33; texts])
                                 .piece(4, reply.to_vec())
@@ -158,6 +160,39 @@ pub fn revisions(board: &mut Board) {
                 block[at] = value;
                 board.call(&lent::inquiry(&standard).piece(1, block));
             }
+        }
+    }
+}
+
+/// Every sum of a block with A5h in byte 510, by each page, of a plain drive
+/// and of a packet drive; other bytes in its place; and A5h in byte 511 alone.
+pub fn damaged(board: &mut Board) {
+    let reply = [0x05, 0x00, 0x00, 0x01, 0x80];
+    let mut blocks = Vec::new();
+    for last in 0..=0xFF {
+        let mut block = lent::closed(lent::text_block());
+        block[511] = last;
+        blocks.push(block);
+    }
+    for mark in [0x00, 0x25, 0x5A, 0xA4, 0xA6, 0xAD, 0xFF] {
+        for last in [0x00, 0x01, 0xA5, 0xFF] {
+            let mut block = lent::text_block();
+            block[510..].copy_from_slice(&[mark, last]);
+            blocks.push(block);
+        }
+    }
+    for block in blocks {
+        for (evpd, page) in [
+            (0, 0x00),
+            (1, 0x00),
+            (1, 0x80),
+            (1, 0x83),
+            (1, 0x89),
+            (1, 0xB0),
+        ] {
+            let call = lent::inquiry(&[0x12, evpd, page, 0x02, 0x3C, 0]).piece(1, block.clone());
+            board.call(&packet(call.clone(), &reply));
+            board.call(&call);
         }
     }
 }

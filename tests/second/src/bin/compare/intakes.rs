@@ -137,30 +137,39 @@ pub fn refusals(board: &mut Board) {
         (0, 0),
         (512, 513),
     ];
+    for (have, store) in intakes {
+        refusals_of(board, have, lent::holey_block(), store);
+    }
+    for have in [512, 511, 513] {
+        refusals_of(board, have, lent::damaged_block(), 512);
+    }
+}
+
+/// The same of one intake, whose store is made to have this size.
+fn refusals_of(board: &mut Board, have: u16, store: Vec<u8>, size: usize) {
     let replies: [&[u8]; 2] = [&[5, 0, 9, 2, 0x80, 0x80], &[5, 0, 9, 2, 0x80, 0x90]];
     let signatures = [lent::plain_signature(), lent::packet_signature()];
     for command in inquiries::commands() {
-        for (have, store) in intakes {
-            for signature in &signatures {
-                for (reply, space) in [(0, 0), (0, 600), (1, 0), (1, 600)] {
-                    for (texts, sense) in [(28, 22), (27, 22), (28, 21)] {
-                        let mut call = lent::inquiry(&command)
-                            .piece(1, lent::holey_block())
-                            .piece(2, signature.clone())
-                            .piece(3, vec![0x33; texts])
-                            .piece(4, replies[reply].to_vec())
-                            .piece(5, room(space))
-                            .piece(6, room(sense));
-                        call.pieces[1].resize(store, 0x2E);
-                        board.call(&lent::from_intake(call, have));
-                    }
+        for signature in &signatures {
+            for (reply, space) in [(0, 0), (0, 600), (1, 0), (1, 600)] {
+                for (texts, sense) in [(28, 22), (27, 22), (28, 21)] {
+                    let mut call = lent::inquiry(&command)
+                        .piece(1, store.clone())
+                        .piece(2, signature.clone())
+                        .piece(3, vec![0x33; texts])
+                        .piece(4, replies[reply].to_vec())
+                        .piece(5, room(space))
+                        .piece(6, room(sense));
+                    call.pieces[1].resize(size, 0x2E);
+                    board.call(&lent::from_intake(call, have));
                 }
             }
         }
     }
 }
 
-/// INQUIRY with an intake's block: every page of every kind of block, complete or not.
+/// INQUIRY with an intake's block: every page of every kind of block, complete or not, with
+/// any sum carried along.
 pub fn pages(board: &mut Board) {
     for block in lent::blocks() {
         for (evpd, page) in [(0, 0x00), (1, 0x00), (1, 0x80), (1, 0x83), (1, 0x89)] {
@@ -170,7 +179,9 @@ pub fn pages(board: &mut Board) {
                 let plain = lent::inquiry(&command).piece(1, block.clone());
                 for call in [packet(plain.clone(), &[5, 0, 0, 1, 0x80]), plain] {
                     for have in [512, 511, 1] {
-                        board.call(&lent::from_intake(call.clone(), have));
+                        let sum = allocation;
+                        let asked = lent::from_intake(call.clone(), have);
+                        board.call(&asked.intake(Intake { have, sum }));
                     }
                 }
             }
@@ -240,6 +251,27 @@ pub fn roll_sizes(board: &mut Board) {
         let stores = &stores[stores.len() - 512 * count..];
         for space in [512 * complete - 1, 512 * complete, 512 * complete + 1] {
             board.call(&lent::intake_roll(&haves, stores, space, complete));
+        }
+    }
+}
+
+/// A damaged store at each place of a run of intakes, complete there or not,
+/// with another that claims too much, and with room that is too short.
+pub fn roll_damaged(board: &mut Board) {
+    let count = 5;
+    for at in 0..count {
+        let mut stores = rolls::different()[..count].to_vec();
+        stores[at] = lent::damaged_block();
+        for have in [512, 511, 0] {
+            for other in [512, 511, 513] {
+                let mut haves = vec![512; count];
+                haves[(at + 2) % count] = other;
+                haves[at] = have;
+                let complete = haves.iter().filter(|&&have| have == 512).count();
+                for (space, rows) in spaces(complete, true) {
+                    board.call(&lent::intake_roll(&haves, &stores.concat(), space, rows));
+                }
+            }
         }
     }
 }

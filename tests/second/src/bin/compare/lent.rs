@@ -91,6 +91,24 @@ pub fn holey_block() -> Vec<u8> {
     block
 }
 
+/// The block with A5h in byte 510, and the byte behind it so that all sum to 0.
+pub fn closed(mut block: Vec<u8>) -> Vec<u8> {
+    block[510] = 0xA5;
+    let sum = block[..511]
+        .iter()
+        .fold(0_u8, |sum, &byte| sum.wrapping_add(byte));
+    block[511] = sum.wrapping_neg();
+    block
+}
+
+/// A block that was closed, with two letters of its serial number changed.
+pub fn damaged_block() -> Vec<u8> {
+    let mut block = closed(holey_block());
+    block[22] ^= 0x01;
+    block[33] ^= 0x42;
+    block
+}
+
 /// Blocks of every kind that a page can tell apart.
 pub fn blocks() -> Vec<Vec<u8>> {
     let mut removable = text_block();
@@ -102,6 +120,7 @@ pub fn blocks() -> Vec<Vec<u8>> {
     let mut all = vec![zero_block(), block_0(), text_block(), holey_block()];
     all.extend([removable, fixed, blank_revision]);
     all.extend([junk_block(), vec![0xFF; 512], vec![0x20; 512]]);
+    all.extend([closed(text_block()), closed(block_0()), damaged_block()]);
     for at in 216..224 {
         let mut one_bit = with_word(text_block(), 87, NAMED);
         one_bit[at] = 1 << (at % 8);

@@ -23,7 +23,7 @@ mod rolls;
 mod show;
 mod soundings;
 
-use board::{Board, Talk};
+use board::{Board, Talk, NUMBERS};
 use call::{Call, NAMES};
 use std::error::Error;
 use std::io;
@@ -116,7 +116,7 @@ fn real_blocks(folder: &str) -> io::Result<Vec<Vec<u8>>> {
 /// A class of inputs that takes nothing but the board.
 type Inputs = fn(&mut Board);
 
-const CLASSES: [(&str, Inputs); 32] = [
+const CLASSES: [(&str, Inputs); 36] = [
     ("soundings C1 to C13", soundings::numbered),
     ("the other soundings", soundings::others),
     ("published examples", soundings::published),
@@ -140,16 +140,19 @@ const CLASSES: [(&str, Inputs); 32] = [
     ("inquiry: all page codes and flags", inquiries::all_pages),
     ("inquiry: word 0", inquiries::first_word),
     ("inquiry: firmware texts", inquiries::revisions),
+    ("inquiry: damaged blocks", inquiries::damaged),
     ("inquiry: signatures", inquiries::signatures),
     ("packet: replies that pass", inquiries::passed),
     ("packet: 89h at every place of page 00h", inquiries::lists),
     ("packet: unusable lists", inquiries::unusable_lists),
     ("page 83h: written and read back", pages_written),
     ("page 83h: word 87", pages::name_words),
+    ("page 83h: damaged blocks", pages::damaged_blocks),
     ("page 83h: every byte damaged", pages::damaged),
     ("page 83h: cut, extended, mixed", pages::resized),
     ("roll: sizes and rows", rolls::sizes),
     ("roll: word 87 of two blocks", rolls::name_words),
+    ("roll: damaged blocks", rolls::damaged),
     ("intake: runs that end around byte 512", intakes::runs),
     ("intake: claims and stores", intakes::claims_and_stores),
     (
@@ -158,6 +161,7 @@ const CLASSES: [(&str, Inputs); 32] = [
     ),
     ("intake: inquiry, pages of every block", intakes::pages),
     ("intake: rolls, sizes and rows", intakes::roll_sizes),
+    ("intake: rolls, damaged stores", intakes::roll_damaged),
 ];
 
 fn pages_written(board: &mut Board) {
@@ -185,9 +189,9 @@ fn run(asked: Asked) -> io::Result<bool> {
     let found = board.finish()?;
     let mut report = Report::default();
     for (class, differences) in board.classes.iter().zip(&found) {
-        let given: Vec<String> = (0..17)
+        let given: Vec<String> = (0..NUMBERS)
             .filter(|&number| class.numbers & 1 << number != 0)
-            .map(|number: u32| number.to_string())
+            .map(|number| number.to_string())
             .collect();
         let (name, calls, given) = (class.name, class.calls, given.join(" "));
         let text = format!("{name}: {calls} calls, numbers {given}");
@@ -314,20 +318,20 @@ fn pairs_tried(board: &Board, report: &mut Report) {
 /// The numbers that each function can give, as the header says.
 const GIVEN: [&[usize]; 11] = [
     &[0],
-    &[0, 1, 2, 3, 4, 5, 6, 7, 8],
+    &[0, 1, 2, 3, 4, 5, 6, 7, 8, 18],
     &[0, 1, 2, 3, 4, 9, 10, 11, 12, 13, 14],
     &[0, 1, 15],
-    &[0, 1, 8],
+    &[0, 1, 8, 18],
     &[0, 16],
-    &[0, 1],
+    &[0, 1, 18],
     &[0],
     &[0, 1],
-    &[0, 1, 2, 3, 4, 5, 6, 7, 8],
-    &[0, 1, 8],
+    &[0, 1, 2, 3, 4, 5, 6, 7, 8, 18],
+    &[0, 1, 8, 18],
 ];
 
 /// Prints how often each number was given. Back: every one that can be was.
-fn cover(counts: &[[u64; 17]; NAMES.len()]) -> bool {
+fn cover(counts: &[[u64; NUMBERS]; NAMES.len()]) -> bool {
     let mut all = true;
     for (at, of_function) in counts.iter().enumerate() {
         let total: u64 = of_function.iter().sum();

@@ -51,6 +51,26 @@ pub fn name_words(board: &mut Board) {
     }
 }
 
+/// Each bit of closed blocks changed alone, and two bits; room that is too
+/// short for the page, or for any.
+pub fn damaged_blocks(board: &mut Board) {
+    for base in [
+        lent::closed(lent::text_block()),
+        lent::closed(lent::block_0()),
+    ] {
+        for bit in 0..4096 {
+            let mut block = base.clone();
+            block[bit / 8] ^= 1 << (bit % 8);
+            board.call(&lent::write(&block, 80));
+            block[(bit / 8 + 7) % 512] ^= 1 << (bit % 8);
+            board.call(&lent::write(&block, 80));
+        }
+    }
+    for size in [0, 15, 16, 75, 76] {
+        board.call(&lent::write(&lent::damaged_block(), size));
+    }
+}
+
 /// The pages whose damage is tried: of a name, and of texts.
 fn damaged_ones() -> Vec<Vec<u8>> {
     let mut one_bit = lent::with_word(lent::text_block(), 87, lent::NAMED);

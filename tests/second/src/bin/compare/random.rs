@@ -119,6 +119,11 @@ fn block(numbers: &mut Numbers, known: &[Vec<u8>]) -> Vec<u8> {
     if numbers.once_in(8) {
         block[50..54].fill(0x20);
     }
+    // The real blocks have a checksum, which most changes have to keep right.
+    let closed = if block[510] == 0xA5 { 5 } else { 1 };
+    if numbers.below(6) < closed {
+        block = lent::closed(block);
+    }
     block
 }
 

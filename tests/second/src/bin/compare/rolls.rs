@@ -44,6 +44,9 @@ pub fn twin(block: &[u8], numbers: &mut Numbers) -> Vec<u8> {
     } else {
         twin[216..224].fill(0);
     }
+    if twin[510] == 0xA5 {
+        return lent::closed(twin);
+    }
     twin
 }
 
@@ -98,6 +101,32 @@ pub fn one_byte(board: &mut Board) {
                 let mut other = base.clone();
                 other[at] = value;
                 board.call(&lent::roll(&[&base[..], &other].concat(), 2));
+            }
+        }
+    }
+}
+
+/// A damaged block at each place of rolls, one that is closed right in its
+/// stead, and two damaged ones; rows of n - 1, n and n + 1.
+pub fn damaged(board: &mut Board) {
+    let drives = different();
+    for count in [1, 2, 3, 17, 64] {
+        for at in 0..count {
+            let sound = drives[..count].concat();
+            let with = |at: usize, block: &[u8]| {
+                let mut blocks = sound.clone();
+                blocks[512 * at..512 * (at + 1)].copy_from_slice(block);
+                blocks
+            };
+            let mut two = with(at, &lent::damaged_block());
+            two[..512].copy_from_slice(&lent::damaged_block());
+            for rows in [count - 1, count, count + 1] {
+                board.call(&lent::roll(&with(at, &lent::damaged_block()), rows));
+                board.call(&lent::roll(
+                    &with(at, &lent::closed(lent::holey_block())),
+                    rows,
+                ));
+                board.call(&lent::roll(&two, rows));
             }
         }
     }
