@@ -1,5 +1,5 @@
 """The IDENTIFY block as section 5 of docs/RULES.md has it, for the scripts that say what a program must print: words, the two ways
-of reading a text, the name, and when two blocks are the same drive. Nothing of the board is used. The second program (tests/second)
+of reading a text, the name, the checksum, and when two blocks are the same drive. Nothing of the board is used. The second program (tests/second)
 and the C and Rust code of tests/ and bench/ read blocks on their own, and stay so: readings that share nothing judge each other."""
 
 SIZE = 512
@@ -48,6 +48,17 @@ def carries_name(block):
     """Word 87 counts where bits 15:14 are 01b; its bit 8 says that there is a name; and a name of zeros is none."""
     said = word(block, 87)
     return said >> 14 == 0b01 and bool(said & 1 << 8) and any(name(block))
+
+
+def damaged(block):
+    """Byte 510, the low byte of word 255, is A5h, and the 512 bytes do not sum to 0 modulo 256."""
+    return len(block) == SIZE and word(block, 255) & 0xFF == 0xA5 and sum(block) % 256 != 0
+
+
+def closed(block):
+    """The block with A5h and the checksum that goes with it."""
+    front = bytes(block[:SIZE - 2]) + b"\xa5"
+    return front + bytes([-sum(front) % 256])
 
 
 def same_drive(one, other):

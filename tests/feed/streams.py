@@ -56,15 +56,16 @@ def cases(blocks):
     yield "one-long-run", [block + bytes(range(256)) * 100]
     unnamed = bytearray(block)
     unnamed[216:224] = bytes(8)
-    yield "no-name", [bytes(unnamed[:300]), bytes(unnamed[300:])]
+    whole = identify.closed(unnamed)
+    yield "no-name", [whole[:300], whole[300:]]
     junk = bytearray(block)
     junk[175] &= 0xFE
-    yield "no-name-but-factory-text", [bytes(junk)]
+    yield "no-name-but-factory-text", [identify.closed(junk)]
     every = bytes(range(256)) + bytes(44)
     for i in range(0, 300, 60):
         unnamed[20:40] = every[i : i + 20]
         unnamed[54:94] = every[i + 20 : i + 60]
-        yield f"every-byte-{i}", [bytes(unnamed)]
+        yield f"every-byte-{i}", [identify.closed(unnamed)]
     seeded = random.Random(6)
     for i in range(40):
         stream = seeded.choice(blocks)[1] + seeded.randbytes(seeded.randrange(200))

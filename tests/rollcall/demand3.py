@@ -5,7 +5,7 @@ import pathlib
 import sys
 
 sys.path.insert(0, str(pathlib.Path(__file__).resolve().parents[2] / "tools"))
-from identify import blocks, carries_name, same_drive
+from identify import blocks, carries_name, damaged, same_drive
 
 
 def main():
@@ -14,6 +14,9 @@ def main():
         print("refused 1")
         return
     run = blocks(data)
+    if any(map(damaged, run)):
+        print("refused 18")
+        return
     drives = []
     lines = []
     for place, block in enumerate(run):

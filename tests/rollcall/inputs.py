@@ -100,6 +100,20 @@ def name_words():
     return [drive("PIONG DISK", "N1", FACTORY, word_87=word) for word in says_none + (0x4100, 0x7FFF)]
 
 
+def closed(block):
+    """Byte 510 is A5h, and byte 511 such that all 512 sum to 0 modulo 256."""
+    front = block[:510] + b"\xa5"
+    return front + bytes([-sum(front) % 256])
+
+
+def changed(block):
+    """On a loose cable two letters of the serial number became others."""
+    return block[:21] + b"TM" + block[23:]
+
+
+BAYS = [drive("PIONG DISK", "SN%04d" % bay) for bay in range(4)]
+CLOSED = [closed(block) for block in BAYS]
+
 LONG = "PIONG DISK SEVEN"  # sixteen letters
 
 INPUTS = {
@@ -131,6 +145,13 @@ INPUTS = {
     "firmware": [drive("PIONG DISK", "N1", firmware="1.0"), drive("PIONG DISK", "N1", firmware="2.0")],
     "model_or_serial": [drive("A", "B"), drive("B", "A"), drive("AB", ""), drive("A", "B")],
     "letter_case": [drive("Piong", "n1"), drive("PIONG", "N1"), drive("PIONG", " N1")],
+    # A checksum that is right, and one that is not, of the first block and of the last; the same change where there is no checksum.
+    "checksums": CLOSED + CLOSED,
+    "loose_cable": CLOSED + [changed(CLOSED[2])],
+    "loose_cable_first": [changed(CLOSED[0])] + CLOSED,
+    "no_checksum": BAYS + [changed(BAYS[2])],
+    "checksum_behind_full_bays": many(63) + [changed(CLOSED[0])],
+    "checksum_of_65_blocks": many(64) + [changed(CLOSED[0])],
     # Rows by first appearance: a b a c b c d a.
     "first_appearance": [drive("PIONG DISK", serial) for serial in "abacbcda"],
     "mixed": mixed(),
