@@ -7,8 +7,8 @@
 #include <stdio.h>
 #include <string.h>
 
-/* What rooms are filled with, and where sense data has the registers. */
-enum { FILL = 0xA5, REGISTERS_AT = PIONGSEUT_SENSE_SIZE - PIONGSEUT_REGISTERS_SIZE };
+/* What rooms are filled with, the refusal of a damaged block, and where sense data has the registers. */
+enum { FILL = 0xA5, DAMAGED = 18, REGISTERS_AT = PIONGSEUT_SENSE_SIZE - PIONGSEUT_REGISTERS_SIZE };
 
 static int passed;
 static int failed;
@@ -346,6 +346,31 @@ static void pages83(void)
     check(written.number == PIONGSEUT_REFUSED_ROOM && written.count == 0, "room 75 for 76 bytes, 8");
 }
 
+/* C1's block with A5h in byte 510: taken with the checksum that goes with it, 18 with another. */
+static void damaged_block(void)
+{
+    static const uint8_t command[6] = {0x12, 0x01, 0x83, 0x00, 0xFF, 0x00};
+    const uint16_t have = PIONGSEUT_BLOCK_SIZE;
+    uint16_t row = 0xAAAA;
+    prepare();
+    block[510] = 0xA5;
+    block[511] = 0xF1; /* C1's bytes sum to 6Ah */
+    piongseut_inquiry_answer answer = ask(command, sizeof command, texts, 0);
+    check(answer.number == PIONGSEUT_ACCEPTED && answer.count == PIONGSEUT_PAGE83_WWN_SIZE, "a right checksum: page 83h");
+    prepare();
+    block[510] = 0xA5;
+    answer = ask(command, 0, texts, 0);
+    check(answer.number == DAMAGED && answer.status == PIONGSEUT_NONE && answer.count == 0 && untouched(room, sizeof room) &&
+              untouched(sense, sizeof sense),
+          "INQUIRY with a damaged block and no command byte, 18");
+    piongseut_write_page83_answer written = piongseut_write_page83(block, sizeof block, room, 0);
+    check(written.number == DAMAGED && written.count == 0, "page 83h of a damaged block, 18");
+    piongseut_roll_answer rolled = piongseut_roll(block, sizeof block, &row, 1);
+    check(rolled.number == DAMAGED && rolled.blocks == 0 && rolled.drives == 0 && row == 0xAAAA, "the roll of a damaged block, 18");
+    piongseut_intake_gather_answer its = piongseut_intake_gather(&have, 1, block, sizeof block, room, sizeof room);
+    check(its.number == DAMAGED && its.count == 0 && untouched(room, sizeof room), "gathering a damaged block, 18");
+}
+
 /* The three blocks of the rule book's sample; then no blocks, all that a roll has, and one more. */
 static void rolls(void)
 {
@@ -517,6 +542,7 @@ int main(void)
     longest_order();
     protocols();
     pages83();
+    damaged_block();
     rolls();
     intakes();
     printf("uses_all: %d passed, %d failed\n", passed, failed);

@@ -76,6 +76,13 @@ static void become_packet(drive *d)
     d->packet = 1;
 }
 
+/* A loose cable changes two letters of the serial number on their way, behind the drive's checksum. */
+static void shake(uint8_t *block)
+{
+    block[32] ^= 0x01;
+    block[37] ^= 0x02;
+}
+
 /* One line of a description. */
 static int property(drive *d, const char *folder, const char *key, const char *value)
 {
@@ -91,6 +98,8 @@ static int property(drive *d, const char *folder, const char *key, const char *v
         d->power = 0x00;
     else if (!strcmp(key, "health") && !strcmp(value, "failing"))
         d->failing = 1;
+    else if (!strcmp(key, "cable") && !strcmp(value, "loose"))
+        d->loose = 1;
     else if (!strcmp(key, "kind") && !strcmp(value, "packet"))
         become_packet(d);
     else
@@ -141,6 +150,8 @@ int drive_describe(drive *d, const char *text, const char *folder, char *complai
     }
     if (d->identify_size && d->identify[510] == 0xA5)
         close_block(d->identify);
+    if (d->loose)
+        shake(d->identify);
     sign(d);
     reset(d);
     return 0;

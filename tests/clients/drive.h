@@ -17,6 +17,7 @@ typedef struct {
     int packet;           /* a packet drive, with an INQUIRY reply of its own */
     int failing;          /* SMART RETURN STATUS tells of a threshold passed */
     int smart_off;
+    int loose;            /* on a loose cable: its IDENTIFY block arrives changed */
 } drive;
 
 /* Makes the drive that a description tells of: after a first line that is skipped, one
