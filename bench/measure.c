@@ -74,9 +74,9 @@ struct measured {
 
 /*
  * How a call is made: for a drive without a name, for a packet drive, with an order pending, with one that asks for registers,
- * with an intake that has a part of its block.
+ * with an intake that has a part of its block, with blocks that carry a checksum.
  */
-enum { TEXTS = 1, PACKET = 2, HELD = 4, CK_COND = 8, PART = 16 };
+enum { TEXTS = 1, PACKET = 2, HELD = 4, CK_COND = 8, PART = 16, SUMMED = 32 };
 
 static _Alignas(64) uint8_t block[PIONGSEUT_BLOCK_SIZE], blocks[PIONGSEUT_ROLL_BLOCKS * PIONGSEUT_BLOCK_SIZE];
 static _Alignas(64) uint8_t page[PIONGSEUT_PAGE83_TEXT_SIZE];
@@ -174,11 +174,23 @@ __attribute__((noinline, optimize("O3"))) uint8_t bare_copy_and_sum(uint8_t *to,
     return sum;
 }
 
-/* The least that delivers the same number of bytes, whoever makes them; a run into an intake is summed too. */
+__attribute__((noinline, noclone, optimize("O3"))) uint8_t bare_sum(const uint8_t *from, size_t count)
+{
+    uint8_t sum = 0;
+    for (size_t i = 0; i < count; i++)
+        sum = (uint8_t)(sum + from[i]);
+    return sum;
+}
+
+/*
+ * The least that delivers the same number of bytes, whoever makes them; a run into an intake is summed too. Beside a call that asks a
+ * checksum stands the sum alone.
+ */
 static void make_copy(const measured *one, const maker *by, left *to)
 {
     (void)by;
-    if (one->make == make_take) STACK_CALL(to->said[0] = bare_copy_and_sum(to->room, blocks, one->bytes));
+    if (one->how & SUMMED) STACK_CALL(to->said[0] = bare_sum(block, sizeof block));
+    else if (one->make == make_take) STACK_CALL(to->said[0] = bare_copy_and_sum(to->room, blocks, one->bytes));
     else STACK_CALL(bare_copy(to->room, blocks, one->bytes));
 }
 
@@ -188,6 +200,7 @@ static const measured calls[] = {
     {"inquiry, page 80h", 84, 24, make_inquiry, 0, {0x12, 1, 0x80, 2, 0x3C}},
     {"inquiry, page 83h, name", 120, 16, make_inquiry, 0, {0x12, 1, 0x83, 2, 0x3C}},
     {"inquiry, page 83h, texts", 0, 76, make_inquiry, TEXTS, {0x12, 1, 0x83, 2, 0x3C}},
+    {"inquiry, page 83h, A5h", 0, 16, make_inquiry, SUMMED, {0x12, 1, 0x83, 2, 0x3C}},
     {"inquiry, page 89h", 250, 572, make_inquiry, 0, {0x12, 1, 0x89, 2, 0x3C}},
     {"inquiry, refusal, sense", 100, 8, make_inquiry, 0, {0x12, 1, 0xB0, 2, 0x3C}},
     {"packet drive, page 00h", 0, 8, make_inquiry, PACKET, {0x12, 1, 0x00, 2, 0x3C}},
@@ -220,6 +233,15 @@ static piongseut_record record_for(const measured *one)
     return record;
 }
 
+/* The last word: A5h and the byte with which all 512 sum to 0, or zeros. */
+static void end_block(uint8_t *one, int summed)
+{
+    one[510] = summed ? 0xA5 : 0;
+    one[511] = 0;
+    for (unsigned i = 0; summed && i < PIONGSEUT_BLOCK_SIZE - 1; i++)
+        one[511] = (uint8_t)(one[511] - one[i]);
+}
+
 /* 64 different drives are the most that a roll compares: each has its number in the serial number, and in the name if any. */
 static void prepare(const measured *one, left *to)
 {
@@ -227,12 +249,14 @@ static void prepare(const measured *one, left *to)
     block[174] = 0x00; /* word 87 says that there is a name */
     block[175] = 0x41;
     memcpy(block + 216, one->how & TEXTS ? none : name, 8);
+    end_block(block, one->how & SUMMED);
     memcpy(signature + 5, one->how & PACKET ? "\x14\xEB" : "\0", 2);
     for (unsigned i = 0; i < PIONGSEUT_ROLL_BLOCKS; i++) {
         uint8_t *its = blocks + PIONGSEUT_BLOCK_SIZE * i;
         memcpy(its, block, sizeof block);
         its[21] = (uint8_t)(i + 1);
         its[222] = one->how & TEXTS ? 0 : (uint8_t)(i + 1);
+        end_block(its, one->how & SUMMED);
         haves[i] = PIONGSEUT_BLOCK_SIZE;
     }
     memset(to, 0, sizeof *to);

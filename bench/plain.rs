@@ -104,9 +104,9 @@ const FIELD: [u8; 3] = [0x05, 0x24, 0x00];
 
 /// Key, ASC and ASCQ of each refusal number. Key 0: no sense bytes.
 #[rustfmt::skip]
-const TABLE: [[u8; 3]; 17] = [
+const TABLE: [[u8; 3]; 19] = [
     [0; 3], [0; 3], FIELD, [0x05, 0x20, 0x00], FIELD, FIELD, [0x02, 0x04, 0x00], [0x0B, 0x00, 0x00], [0; 3],
-    FIELD, [0; 3], FIELD, FIELD, FIELD, FIELD, [0; 3], [0; 3],
+    FIELD, [0; 3], FIELD, FIELD, FIELD, FIELD, [0; 3], [0; 3], [0; 3], [0; 3],
 ];
 
 /// Writes the sense bytes of a refusal, and gives its status.
@@ -168,6 +168,11 @@ fn page80(block: &Block) -> [u8; 24] {
 
 const NAME_HEAD: [u8; 8] = [0x00, 0x83, 0x00, 0x0C, 0x01, 0x03, 0x00, 0x08];
 const TEXTS_HEAD: [u8; 16] = *b"\x00\x83\x00\x48\x02\x01\x00\x44ATA     ";
+
+/// Whether a block is damaged: A5h in byte 510, and the bytes do not sum to 0.
+fn damaged(block: &[u8]) -> bool {
+    block[510] == 0xA5 && block.iter().fold(0u8, |sum, &byte| sum.wrapping_add(byte)) != 0
+}
 
 /// Byte 175 is the upper half of word 87, whose bits 15:14 and bit 8 say whether the name counts.
 fn carries_name(block: &[u8]) -> bool {
@@ -245,6 +250,9 @@ const ROOM: u8 = 1;
 
 /// What is shown, and how many bytes of it.
 fn inquiry(command: &[u8], drive: &Drive, room: &mut [u8]) -> Result<(u8, usize), u8> {
+    if drive.block.map_or(false, |block| damaged(block)) {
+        return Err(18);
+    }
     let (flags, page, most, control) = match *command {
         [0x12, flags, page, high, low, control, ..] => (flags & 3, page, u16::from_be_bytes([high, low]).into(), control),
         [] | [0x12, ..] => return Err(2),
@@ -396,9 +404,12 @@ fn same_drive(a: &[u8], b: &[u8]) -> bool {
     }
 }
 
-fn roll(bytes: &[u8], rows: &mut [u16]) -> Option<(u16, u16)> {
+fn roll(bytes: &[u8], rows: &mut [u16]) -> Result<(u16, u16), u8> {
     if bytes.len() % 512 != 0 || bytes.len() > 32768 || rows.len() < bytes.len() / 512 {
-        return None;
+        return Err(1);
+    }
+    if bytes.chunks_exact(512).any(damaged) {
+        return Err(18);
     }
     let mut drives = 0;
     for (i, block) in bytes.chunks_exact(512).enumerate() {
@@ -406,7 +417,7 @@ fn roll(bytes: &[u8], rows: &mut [u16]) -> Option<(u16, u16)> {
         rows[i] = first.map_or(drives + 1, |j| rows[j]);
         drives += u16::from(first.is_none());
     }
-    Some(((bytes.len() / 512) as u16, drives))
+    Ok(((bytes.len() / 512) as u16, drives))
 }
 
 // ---- The intake ----
@@ -428,6 +439,9 @@ fn gather(haves: &[u16], stores: &[u8], room: &mut [u8]) -> Result<usize, u8> {
         return Err(1);
     }
     let complete = stores.chunks_exact(512).zip(haves).filter(|(_, &have)| have == 512);
+    if complete.clone().any(|(store, _)| damaged(store)) {
+        return Err(18);
+    }
     let room = room.get_mut(..512 * complete.clone().count()).ok_or(8)?;
     for (place, (store, _)) in room.chunks_exact_mut(512).zip(complete) {
         place.copy_from_slice(store);
@@ -494,8 +508,9 @@ pub unsafe extern "C" fn plain_complete(
 /// As the header says of piongseut_write_page83.
 #[no_mangle]
 pub unsafe extern "C" fn plain_write_page83(block: *const u8, block_size: usize, room: *mut u8, room_size: usize) -> Written {
-    let block = lent(block, block_size).try_into().map_err(|_| 1);
-    match block.and_then(|block| page83(block, usize::MAX, lent_mut(room, room_size))) {
+    let block: Result<&Block, u8> = lent(block, block_size).try_into().map_err(|_| 1);
+    let sound = block.and_then(|block| if damaged(block) { Err(18) } else { Ok(block) });
+    match sound.and_then(|block| page83(block, usize::MAX, lent_mut(room, room_size))) {
         Ok(count) => Written { number: 0, count },
         Err(number) => Written { number, count: 0 },
     }
@@ -518,8 +533,8 @@ pub unsafe extern "C" fn plain_read_page83(page: *const u8, page_size: usize) ->
 #[no_mangle]
 pub unsafe extern "C" fn plain_roll(blocks: *const u8, blocks_size: usize, rows: *mut u16, rows_size: usize) -> RollAnswer {
     match roll(lent(blocks, blocks_size), lent_mut(rows, rows_size)) {
-        Some((blocks, drives)) => RollAnswer { number: 0, blocks, drives },
-        None => RollAnswer { number: 1, blocks: 0, drives: 0 },
+        Ok((blocks, drives)) => RollAnswer { number: 0, blocks, drives },
+        Err(number) => RollAnswer { number, blocks: 0, drives: 0 },
     }
 }
 
