@@ -426,8 +426,9 @@ def entries():
 def page_checks(text, table, cases):
     tried = {step.entry for case in cases for step in case.steps}
     names = {word for case in cases for word in re.findall(r"^C\d+", case.name)}
-    yield "the table has a row for each number from 1 to 16", sorted(set(range(1, 17)) ^ set(table))
-    yield "every number has an example", sorted(set(range(17)) - numbers_in(cases))
+    given = set(range(17)) | {18}
+    yield "the table has a row for each number from 1 to 16 and for 18", sorted(given - {0} ^ set(table))
+    yield "every number has an example", sorted(given - numbers_in(cases))
     yield "every entry has an example", sorted((entries() | {"rollcall"}) - tried)
     yield "C1 to C13 are among the examples", sorted({"C%d" % n for n in range(1, 14)} - names)
     yield "every definition that the page names is there", list(undefined(text))
