@@ -134,6 +134,12 @@ fn report([key, asc, ascq]: [u8; 3], extend: bool, registers: &[u8; 11], sense: 
 
 // ---- INQUIRY ----
 
+/// Refuses a block that carries a checksum, A5h in byte 510, and does not sum to 0.
+fn sound(block: &[u8]) -> Result<(), u8> {
+    let wrong = block[510] == 0xA5 && block.iter().fold(0u8, |sum, &byte| sum.wrapping_add(byte)) != 0;
+    if wrong { Err(18) } else { Ok(()) }
+}
+
 fn kept(byte: u8) -> u8 {
     byte
 }
@@ -168,11 +174,6 @@ fn page80(block: &Block) -> [u8; 24] {
 
 const NAME_HEAD: [u8; 8] = [0x00, 0x83, 0x00, 0x0C, 0x01, 0x03, 0x00, 0x08];
 const TEXTS_HEAD: [u8; 16] = *b"\x00\x83\x00\x48\x02\x01\x00\x44ATA     ";
-
-/// Whether a block is damaged: A5h in byte 510, and the bytes do not sum to 0.
-fn damaged(block: &[u8]) -> bool {
-    block[510] == 0xA5 && block.iter().fold(0u8, |sum, &byte| sum.wrapping_add(byte)) != 0
-}
 
 /// Byte 175 is the upper half of word 87, whose bits 15:14 and bit 8 say whether the name counts.
 fn carries_name(block: &[u8]) -> bool {
@@ -250,9 +251,7 @@ const ROOM: u8 = 1;
 
 /// What is shown, and how many bytes of it.
 fn inquiry(command: &[u8], drive: &Drive, room: &mut [u8]) -> Result<(u8, usize), u8> {
-    if drive.block.map_or(false, |block| damaged(block)) {
-        return Err(18);
-    }
+    drive.block.map_or(Ok(()), |block| sound(block))?;
     let (flags, page, most, control) = match *command {
         [0x12, flags, page, high, low, control, ..] => (flags & 3, page, u16::from_be_bytes([high, low]).into(), control),
         [] | [0x12, ..] => return Err(2),
@@ -408,9 +407,7 @@ fn roll(bytes: &[u8], rows: &mut [u16]) -> Result<(u16, u16), u8> {
     if bytes.len() % 512 != 0 || bytes.len() > 32768 || rows.len() < bytes.len() / 512 {
         return Err(1);
     }
-    if bytes.chunks_exact(512).any(damaged) {
-        return Err(18);
-    }
+    bytes.chunks_exact(512).try_for_each(sound)?;
     let mut drives = 0;
     for (i, block) in bytes.chunks_exact(512).enumerate() {
         let first = bytes.chunks_exact(512).take(i).position(|before| same_drive(before, block));
@@ -439,9 +436,7 @@ fn gather(haves: &[u16], stores: &[u8], room: &mut [u8]) -> Result<usize, u8> {
         return Err(1);
     }
     let complete = stores.chunks_exact(512).zip(haves).filter(|(_, &have)| have == 512);
-    if complete.clone().any(|(store, _)| damaged(store)) {
-        return Err(18);
-    }
+    complete.clone().try_for_each(|(store, _)| sound(store))?;
     let room = room.get_mut(..512 * complete.clone().count()).ok_or(8)?;
     for (place, (store, _)) in room.chunks_exact_mut(512).zip(complete) {
         place.copy_from_slice(store);
@@ -508,9 +503,9 @@ pub unsafe extern "C" fn plain_complete(
 /// As the header says of piongseut_write_page83.
 #[no_mangle]
 pub unsafe extern "C" fn plain_write_page83(block: *const u8, block_size: usize, room: *mut u8, room_size: usize) -> Written {
-    let block: Result<&Block, u8> = lent(block, block_size).try_into().map_err(|_| 1);
-    let sound = block.and_then(|block| if damaged(block) { Err(18) } else { Ok(block) });
-    match sound.and_then(|block| page83(block, usize::MAX, lent_mut(room, room_size))) {
+    let block = lent(block, block_size).try_into().map_err(|_| 1);
+    let block = block.and_then(|block: &Block| sound(block).map(|_| block));
+    match block.and_then(|block| page83(block, usize::MAX, lent_mut(room, room_size))) {
         Ok(count) => Written { number: 0, count },
         Err(number) => Written { number, count: 0 },
     }

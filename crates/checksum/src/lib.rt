@@ -17,7 +17,7 @@ pub fn total(bytes: &[u8]) -> u8
     sum
 }
 
-// Whether a block is damaged. The sum is made only of a block that has one; its part has a length that the compiler knows.
+// Whether a block is damaged. Only one with A5h is summed, over a part whose length the compiler knows.
 pub fn damaged(block: &[u8]) -> bool
     ensures { λ r. ⌜ r ≡ Checksum·damaged (now (block .entry)) ⌝ }
 {

@@ -91,7 +91,7 @@ fn label(i: usize, block: &[u8], row: u16) -> bool
         && say(b"\n")
 }
 
-// The label of a block that is used.
+// The line of a block: its label, or that it is damaged.
 fn line(i: usize, block: &[u8], row: u16) -> bool
     requires { ⌜ length (now block) ≡ 512 ⌝ }
 {
