@@ -1,0 +1,2 @@
+-- The laws of the classes, for the crates above.
+pub mod Masked
