@@ -1,0 +1,2 @@
+-- The laws of the census, for the crates above.
+pub mod Laws
