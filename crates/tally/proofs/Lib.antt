@@ -1,2 +1,3 @@
 -- The laws of the census, for the crates above.
 pub mod Laws
+pub mod Fleet
