@@ -83,6 +83,7 @@ extern "C" {
 #define PIONGSEUT_REFUSED_ABOVE_DECLARED 14  /* 02h, 05 24 00  a length above the host's declared length */
 #define PIONGSEUT_REFUSED_NOTHING_PENDING 15 /* none           completion while nothing is pending */
 #define PIONGSEUT_REFUSED_NOT_A_PAGE 16      /* none           a page 83h that the writer cannot make */
+#define PIONGSEUT_REFUSED_CENSUS 17          /* none           a census that is full, or a grouping of which does not sum to its blocks */
 #define PIONGSEUT_REFUSED_DAMAGED 18         /* none           a lent block is damaged */
 
 /* Sizes of what is lent, in bytes; of sense room the least. */
@@ -363,6 +364,42 @@ PIONGSEUT_HAS_SIZE(piongseut_intake_gather_answer, 16)
 piongseut_intake_gather_answer piongseut_intake_gather(const uint16_t *haves, size_t intake_count,
                                                        const uint8_t *stores, size_t stores_size,
                                                        uint8_t *room, size_t room_size);
+
+/* ---- The census: how many drives of each kind ---- */
+
+/* The most blocks of a census, and the places of its counts: modes 0 to 6 and versions 1 to 14 in a row, with none behind them. */
+#define PIONGSEUT_CENSUS_BLOCKS 65535
+#define PIONGSEUT_CENSUS_MODES 8
+#define PIONGSEUT_CENSUS_NO_MODE 7
+#define PIONGSEUT_CENSUS_VERSIONS 15
+#define PIONGSEUT_CENSUS_NO_VERSION 14
+
+/* A census of the blocks that were fed to it, which each grouping sums to. There is no padding in it. */
+typedef struct {
+    uint16_t blocks;
+    uint16_t named;                              /* they carry a world wide name */
+    uint16_t unnamed;                            /* they carry none */
+    uint16_t udma[PIONGSEUT_CENSUS_MODES];       /* by highest Ultra DMA mode: udma[m] is mode m */
+    uint16_t version[PIONGSEUT_CENSUS_VERSIONS]; /* by highest major version: version[v - 1] is version v */
+} piongseut_census;
+PIONGSEUT_HAS_SIZE(piongseut_census, 52)
+
+typedef struct {
+    piongseut_census next; /* the census afterwards: the one handed in, where refused */
+    uint8_t number;        /* refusal number, 0 if none */
+} piongseut_census_answer;
+PIONGSEUT_HAS_SIZE(piongseut_census_answer, 54)
+
+/* A census of no blocks. */
+piongseut_census piongseut_census_empty(void);
+
+/*
+ * Counts a block in a census. Lent to read: the IDENTIFY block, 512 bytes. The mode is the highest one bit of word 88 bits 6:0, which
+ * count only if word 53 bit 2 is one; the version is the highest one bit of word 80 bits 14:1, none if the word is FFFFh.
+ * Refusals: 1 (a block not of 512 bytes, also one of 0), 17 (65,535 blocks are in the census already, or a grouping of it does not
+ * sum to its blocks), 18 (a damaged block).
+ */
+piongseut_census_answer piongseut_census_feed(piongseut_census census, const uint8_t *block, size_t block_size);
 
 #undef PIONGSEUT_HAS_SIZE
 

@@ -158,7 +158,7 @@ def words_of(text, sizes):
     """How many words a value of this type takes among the arguments."""
     if '*' in text or text.split()[0] in ('size_t', 'uint8_t', 'uint16_t', 'uint32_t', 'uint64_t'):
         return 1
-    if sizes.get(text.split()[0], RED_ZONE) > 2 * WORD:
+    if text.split()[0] not in sizes:
         raise Unreadable('cannot count the argument %s' % text)
     return -(-sizes[text.split()[0]] // WORD)
 
@@ -174,7 +174,8 @@ def declared(header):
         left, stacked = REGISTERS_OF_ARGUMENTS - (sizes[answer] > 2 * WORD), 0
         for one in given.split(',') if given != 'void' else []:
             words = words_of(re.sub(r'\bconst\b', '', one).strip(), sizes)
-            left, stacked = (left - words, stacked) if words <= left else (left, stacked + words)
+            # a struct of more than two words goes by the stack, whatever registers are left
+            left, stacked = (left - words, stacked) if words <= min(left, 2) else (left, stacked + words)
         arguments[name] = (stacked + stacked % 2) * WORD  # the stack pointer is a multiple of 16 at a call
     return arguments, host
 

@@ -11,6 +11,8 @@ use passthrough::Pending;
 use passthrough::Taken;
 use received::Gathered;
 use roll::Counted;
+use tally::Census;
+use tally::Fed;
 ghost use mathlib.Core.Path.{_≡_};
 ghost use mathlib.Core.List.{List};
 ghost use Rattle.inquiry_checks.specs.Request.{request};
@@ -23,6 +25,7 @@ ghost use Rattle.page83_reader.specs.Reader.{read as readRule};
 ghost use Rattle.roll.specs.Roll.{outcome as rollOutcome, roll as rollRule};
 ghost use Rattle.intake.specs.Intake.{empty as emptyIntake, outcome as takenOutcome, taken as takenRule, offered};
 ghost use Rattle.received.specs.Received.{gatherOutcome, gatherOf};
+ghost use Rattle.tally.specs.Census.{empty as emptyCensus, feed as feedRule};
 
 // Answers an INQUIRY command.
 #[no_mangle]
@@ -139,4 +142,20 @@ pub extern "C" fn piongseut_intake_gather(haves: &[u16], stores: &[u8], room: &m
     ensures { λ r. ⌜ gatherOutcome r (now (room .exit)) ≡ gatherOf (now (haves .entry)) (now (stores .entry)) (now (room .entry)) ⌝ }
 {
     received::gather(haves, stores, room)
+}
+
+// A census that has counted nothing.
+#[no_mangle]
+pub extern "C" fn piongseut_census_empty() -> Census
+    ensures { λ r. ⌜ r ≡ emptyCensus ⌝ }
+{
+    tally::empty()
+}
+
+// Feeds a block to a census.
+#[no_mangle]
+pub extern "C" fn piongseut_census_feed(census: Census, block: &[u8]) -> Fed
+    ensures { λ r. ⌜ r ≡ feedRule census (now (block .entry)) ⌝ }
+{
+    tally::feed(census, block)
 }
