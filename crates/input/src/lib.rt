@@ -1,5 +1,7 @@
 // Input: what the words behind a program's name ask for, and the bytes that it is given: those of the files that the words name, one
-// file behind the other, or of standard input where there is no word.
+// file behind the other, or of standard input where there is no word. All of it at once is `take`; part by part is in parts.
+pub mod parts;
+
 use libc::STDERR_FILENO;
 use libc::STDIN_FILENO;
 ghost use Prim.Native.Nat.{_≤_};
@@ -183,13 +185,17 @@ fn read_files(program: &[u8], words: usize, buffer: &mut [u8]) -> Got
     }
 }
 
+fn complain_of_standard(program: &[u8]) {
+    complain_as(program);
+    io::write_all(STDERR_FILENO, b"standard input could not be read\n");
+}
+
 fn read_standard(program: &[u8], buffer: &mut [u8]) -> Got
     ensures { λ r. ⌜ Counts (r .count) (now (buffer .exit)) ⌝ }
 {
     let filled = fill(STDIN_FILENO, buffer, 0);
     if filled.failed {
-        complain_as(program);
-        io::write_all(STDERR_FILENO, b"standard input could not be read\n");
+        complain_of_standard(program);
         return Got {
             wanted: Wanted::Complained,
             count: 0,
