@@ -62,7 +62,7 @@ extern "C" {
 /*
  * Refusal numbers, each with its status, key, ASC and ASCQ if it has them, and when it is given. A refusal changes nothing that was
  * lent, but for the sense room where there is a key: its first eight bytes then are 72h, key, ASC, ASCQ, 00 00 00 00. They are
- * checked in this order: 1, 18, no command bytes (2), 3, too few command bytes (2), then 4 upward. A block is damaged if it has 512
+ * checked in this order: 1, 17, 18, no command bytes (2), 3, too few command bytes (2), then 4 upward. A block is damaged if it has 512
  * bytes, the low byte of its word 255 (byte 510) is A5h, and its bytes do not sum to 0 modulo 256; where one is lent, nothing of it is
  * used. No function asks the sum that an intake carries: each sums the block itself.
  */

@@ -24,6 +24,7 @@ use Rattle.intake.specs.Stream.{begin, runs, stream}
 use Rattle.intake.proofs.Stream.{whole-block, sum-of-the-block, no-block-yet}
 use Rattle.received.specs.Received as Received
 use Rattle.received.specs.Received.{inquiryOf, gatherOf, rollOf, gathered}
+use Rattle.tally.specs.Census.{refusalOf, feed}
 use Rattle.demands.specs.Promises.{SomeDamaged, RollSized, DamagedIsRefused, CarriedSum}
 
 of-inquiry : (q : Request) (room sense : List ℕ) → InquiryChecks.wrongSize (q .block) (q .signature) (q .texts) (length sense) ≡ false → damaged (q .block) ≡ true → inquiry q room sense ≡ Inquiry.outcome (record { number = 18; status = noStatus; shown = 1; count = 0 }) room sense
@@ -44,7 +45,7 @@ unfolding Roll.refusalOf
 roll-refusal bytes entries s w = rw (eq-eqb _ _ (s .whole), le-ltb _ _ (s .few), le-ltb _ _ (s .enough), some-damaged bytes w)
 
 pub damaged-is-refused : DamagedIsRefused
-unfolding roll gatherOf Received.gatherRefusal inquiryOf rollOf Received.refusalOf
+unfolding roll gatherOf Received.gatherRefusal inquiryOf rollOf Received.refusalOf feed refusalOf
 damaged-is-refused =
     record {
       of-inquiry = of-inquiry;
@@ -53,6 +54,7 @@ damaged-is-refused =
       of-gather = λ haves stores room right w. rw (right, some-damaged (gathered haves stores) w);
       of-inquiry-from-intake = λ have store command signature texts reply room sense right s d. rw right (of-inquiry (request command (blockOf have store) signature texts reply) room sense s d);
       of-roll-of-intakes = λ haves stores room rows right s w. rw (right, roll-refusal (gathered haves stores) (length rows) s w);
+      of-feed = λ c block fit d. rw (eq-eqb _ _ (damaged-size block d), fit, d);
     }
 
 -- A sum that is kept modulo 256 decides as the whole sum does.

@@ -10,6 +10,7 @@ use Rattle.demands.proofs.Page83.{reads-back, accepted-is-written, writ
 use Rattle.demands.proofs.Roll.{roll-accepts, roll-of-drives}
 use Rattle.demands.proofs.Damaged.{damaged-is-refused, carried-sum}
 use Rattle.demands.proofs.Stream.{stream-of-runs, inquiry-from-a-stream, roll-of-streams}
+use Rattle.demands.proofs.Census.{census-of-blocks, others-left-out}
 
 settled : {O : Type 0} (outcome : O) → Settled outcome
 settled outcome a b p q = p ∙ sym q
@@ -29,6 +30,7 @@ one-outcome =
       of-gather = λ haves stores room. settled _;
       of-inquiry-from-intake = λ have store command signature texts reply room sense. settled _;
       of-roll-of-intakes = λ haves stores room rows. settled _;
+      of-feed = λ c block. settled _;
     }
 
 pub kept : Promises
@@ -58,4 +60,6 @@ kept =
       inquiry-from-a-stream = inquiry-from-a-stream;
       roll-of-streams = roll-of-streams;
       carried-sum = carried-sum;
+      census-of-blocks = census-of-blocks;
+      others-left-out = others-left-out;
     }

@@ -7,4 +7,5 @@ pub mod Page83
 pub mod Roll
 pub mod Stream
 pub mod Damaged
+pub mod Census
 pub mod Kept

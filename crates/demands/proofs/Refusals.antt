@@ -29,6 +29,10 @@ use Rattle.intake.specs.Intake as Intake
 use Rattle.intake.specs.Intake.{taken, wrongIntake, blockOf, usedBy}
 use Rattle.received.specs.Received as Received
 use Rattle.received.specs.Received.{inquiryOf, gatherOf, rollOf, gathered}
+use Rattle.tally.specs.declared.Census.{Census}
+use Rattle.tally.specs.declared.Fed.{Fed}
+use Rattle.tally.specs.Census as Census
+use Rattle.tally.specs.Census.{feed}
 use Rattle.demands.specs.Promises.{Refused, RefusalsChangeNothing}
 
 -- An outcome that is `accepted`, which carries 0, or that of a refusal. One that carries a number is that number's.
@@ -156,6 +160,12 @@ of-roll-of-intakes haves stores room rows h = by (eqb refusal 0) refl h
     by true e h = absurd (h (rolled-zero haves stores room rows (eqb-true refusal 0 e)))
     by false e h = refl
 
+of-feed : (c : Census) (block : List ℕ) → Refused (feed c block .number) → feed c block ≡ Census.answer c (feed c block .number)
+unfolding feed
+of-feed c block h =
+    let r = Census.refusalOf c block in
+    by-number (λ (o : Fed). o .number) (λ n. Census.answer c n) _ r (eqb r 0) refl refl h
+
 pub refusals-change-nothing : RefusalsChangeNothing
 refusals-change-nothing =
     record {
@@ -169,4 +179,5 @@ refusals-change-nothing =
       of-gather = of-gather;
       of-inquiry-from-intake = of-inquiry-from-intake;
       of-roll-of-intakes = of-roll-of-intakes;
+      of-feed = of-feed;
     }

@@ -1,12 +1,12 @@
--- The promises: what the rules say of the three demands and of the intake, each a statement with a name, in the demands' order.
+-- The promises: what the rules say of the three demands, of the intake and of the census, each a statement with a name, in the demands' order.
 -- Nothing is proved on this page; proofs/Kept has a proof of each. An entry's contract equates all that the entry does with the rule
 -- that is named here, so that each promise is one about the entry.
 use mathlib.Core.Path.{_≡_}
-use mathlib.Core.Bool.{Bool, true, false, cond}
+use mathlib.Core.Bool.{Bool, true, false, cond, not}
 use mathlib.Core.Logic.{_⊎_, _↔_}
 use mathlib.Core.List.{List, [], _++_}
-use Prim.Native.Nat.{ℕ, suc, _*_, _-_, _/_, _%_, _≤_, _<_}
-use lib.Dec.{leb}
+use Prim.Native.Nat.{ℕ, suc, _+_, _*_, _-_, _/_, _%_, _≤_, _<_}
+use lib.Dec.{eqb, leb}
 use lib.ListN.{length, getD, take, set}
 use Rattle.rules.specs.Bits.{flag}
 use Rattle.room.specs.Room.{written}
@@ -45,6 +45,11 @@ use Rattle.intake.specs.Stream.{begin, step, runs, stream}
 use Rattle.received.specs.Received as Received
 use Rattle.received.specs.Received.{inquiryOf, gathered, wrongRun, gatherOf, rollOf}
 use Rattle.received.specs.Stream.{Bay, Stores, havesOf, storesOf, blockIn, blocksOf}
+use Rattle.classes.specs.Classes.{ultraDma, noMode, majorVersion, noVersion}
+use Rattle.tally.specs.declared.Census.{Census}
+use Rattle.tally.specs.Census as Census
+use Rattle.tally.specs.Census.{closed, feed}
+use Rattle.tally.specs.Fleet.{feedAll, countOf, Countable, countables}
 use Rattle.demands.specs.Soundings.{SoundingsHold}
 
 -- A number that came back is a refusal's.
@@ -70,6 +75,7 @@ pub record OneOutcome : Type 0 where
   pub of-gather : (haves stores room : List ℕ) → Settled (gatherOf haves stores room)
   pub of-inquiry-from-intake : (have : ℕ) (store command signature texts reply room sense : List ℕ) → Settled (inquiryOf have store command signature texts reply room sense)
   pub of-roll-of-intakes : (haves stores room rows : List ℕ) → Settled (rollOf haves stores room rows)
+  pub of-feed : (c : Census) (block : List ℕ) → Settled (feed c block)
 
 -- ## Demand 1
 
@@ -86,6 +92,7 @@ pub record RefusalsChangeNothing : Type 0 where
   pub of-gather : (haves stores room : List ℕ) → Refused (gatherOf haves stores room .gathered .number) → gatherOf haves stores room ≡ Received.gatherOutcome (Received.given (gatherOf haves stores room .gathered .number) 0) room
   pub of-inquiry-from-intake : (have : ℕ) (store command signature texts reply room sense : List ℕ) → Refused (inquiryOf have store command signature texts reply room sense .answer .number) → inquiryOf have store command signature texts reply room sense ≡ Inquiry.refused (inquiryOf have store command signature texts reply room sense .answer .number) room sense
   pub of-roll-of-intakes : (haves stores room rows : List ℕ) → Refused (rollOf haves stores room rows .counted .number) → rollOf haves stores room rows ≡ Received.outcome (record { number = rollOf haves stores room rows .counted .number; blocks = 0; drives = 0 }) room rows
+  pub of-feed : (c : Census) (block : List ℕ) → Refused (feed c block .number) → feed c block ≡ Census.answer c (feed c block .number)
 
 -- A block that passes: it is not damaged.
 abbrev pub Passes : List ℕ → Type 0
@@ -109,6 +116,7 @@ pub record DamagedIsRefused : Type 0 where
   pub of-gather : (haves stores room : List ℕ) → wrongRun haves (length stores) ≡ false → SomeDamaged (gathered haves stores) → gatherOf haves stores room ≡ Received.gatherOutcome (Received.given 18 0) room
   pub of-inquiry-from-intake : (have : ℕ) (store command signature texts reply room sense : List ℕ) → wrongIntake have (length store) ≡ false → wrongSize (blockOf have store) signature texts (length sense) ≡ false → damaged (blockOf have store) ≡ true → inquiryOf have store command signature texts reply room sense ≡ Inquiry.outcome (record { number = 18; status = noStatus; shown = 1; count = 0 }) room sense
   pub of-roll-of-intakes : (haves stores room rows : List ℕ) → wrongRun haves (length stores) ≡ false → RollSized (gathered haves stores) (length rows) → SomeDamaged (gathered haves stores) → rollOf haves stores room rows ≡ Received.outcome (record { number = 18; blocks = 0; drives = 0 }) room rows
+  pub of-feed : (c : Census) (block : List ℕ) → closed c ≡ false → damaged block ≡ true → feed c block ≡ Census.answer c 18
 
 -- No reply passes the allocation length.
 abbrev pub WithinAllocation : Type 0
@@ -336,6 +344,36 @@ RollOfStreams = (bays : List Bay) → Stores bays → (room rows : List ℕ) →
 abbrev pub CarriedSum : Type 0
 CarriedSum = (store : List ℕ) → length store ≡ 512 → (rs : List (List ℕ)) → damagedBy (runs (begin store) rs .intake .sum) (blockOf (runs (begin store) rs .intake .have) (runs (begin store) rs .store)) ≡ damaged (blockIn (stream rs))
 
+-- ## The census
+
+-- The census of blocks: what an empty one comes to, fed them one at a time.
+abbrev pub censusOf : List (List ℕ) → Census
+censusOf blocks = feedAll Census.empty blocks
+
+pub record Counted (blocks : List (List ℕ)) : Type 0 where
+  -- every one is counted;
+  pub in-all : censusOf blocks .blocks ≡ length blocks
+  -- each class count is the number of blocks with that property: that they carry a name, or none;
+  pub named : censusOf blocks .named ≡ countOf carriesName blocks
+  pub unnamed : censusOf blocks .unnamed ≡ countOf (λ block. not (carriesName block)) blocks
+  -- their highest Ultra DMA mode, or that they have none;
+  pub modes : (mode : ℕ) → mode ≤ noMode → getD (censusOf blocks .udma) mode 0 ≡ countOf (λ block. eqb (ultraDma block) mode) blocks
+  -- their highest major version, or that they have none;
+  pub versions : (version : ℕ) → 1 ≤ version → version ≤ noVersion → getD (censusOf blocks .version) (version - 1) 0 ≡ countOf (λ block. eqb (majorVersion block) version) blocks
+  -- and each grouping sums to the blocks fed.
+  pub names-sum : censusOf blocks .named + censusOf blocks .unnamed ≡ length blocks
+  pub modes-sum : sumOf (censusOf blocks .udma) ≡ length blocks
+  pub versions-sum : sumOf (censusOf blocks .version) ≡ length blocks
+
+-- So it is of up to 65,535 blocks of 512 bytes that pass.
+abbrev pub CensusOfBlocks : Type 0
+CensusOfBlocks = (blocks : List (List ℕ)) → Countable blocks → length blocks ≤ 65535 → Counted blocks
+
+-- A block of another size, or one that is damaged, is counted nowhere, whatever the census is: any blocks have the census of the others
+-- among them.
+abbrev pub OthersLeftOut : Type 0
+OthersLeftOut = (c : Census) (blocks : List (List ℕ)) → feedAll c blocks ≡ feedAll c (countables blocks)
+
 -- ## All of them
 
 pub record Promises : Type 0 where
@@ -363,3 +401,5 @@ pub record Promises : Type 0 where
   pub inquiry-from-a-stream : InquiryFromAStream
   pub roll-of-streams : RollOfStreams
   pub carried-sum : CarriedSum
+  pub census-of-blocks : CensusOfBlocks
+  pub others-left-out : OthersLeftOut

@@ -20,16 +20,16 @@ unfoldable pub countOf : (List ℕ → Bool) → List (List ℕ) → ℕ
 countOf has [] = 0
 countOf has (block ∷ blocks) = flag (has block) + countOf has blocks
 
--- A block passes: it has 512 bytes, and is not damaged.
-unfoldable pub passes : List ℕ → Bool
-passes block = eqb (length block) 512 && not (damaged block)
+-- A block that a census can count: it has 512 bytes, and is not damaged.
+unfoldable pub countable : List ℕ → Bool
+countable block = eqb (length block) 512 && not (damaged block)
 
--- All of them pass.
-pub data Pass : List (List ℕ) → Type 0 where
-  no-more : Pass []
-  more : {block : List ℕ} {blocks : List (List ℕ)} → passes block ≡ true → Pass blocks → Pass (block ∷ blocks)
+-- All of them are.
+pub data Countable : List (List ℕ) → Type 0 where
+  no-more : Countable []
+  more : {block : List ℕ} {blocks : List (List ℕ)} → countable block ≡ true → Countable blocks → Countable (block ∷ blocks)
 
--- Those of them that pass.
-unfoldable pub passing : List (List ℕ) → List (List ℕ)
-passing [] = []
-passing (block ∷ blocks) = cond (passes block) (block ∷ passing blocks) (passing blocks)
+-- Those of them that are.
+unfoldable pub countables : List (List ℕ) → List (List ℕ)
+countables [] = []
+countables (block ∷ blocks) = cond (countable block) (block ∷ countables blocks) (countables blocks)
