@@ -1,4 +1,4 @@
--- What a block is counted as in the census: its highest Ultra DMA mode, and its highest major version (RULES 13).
+-- What a block is counted as in the census: its highest Ultra DMA mode, and its highest major version (RULES 14).
 use mathlib.Core.Bool.{cond}
 use mathlib.Core.List.{List}
 use Prim.Native.Nat.{ℕ, zero, suc, _+_}

@@ -66,7 +66,7 @@ table =
     ∷ row noStatus 0x00 0x00 0x00
     -- 16: a page 83h that the writer makes for no block
     ∷ row noStatus 0x00 0x00 0x00
-    -- 17: no entry gives it
+    -- 17: a census that is full, or of which a grouping does not sum to its blocks
     ∷ row noStatus 0x00 0x00 0x00
     -- 18: a damaged block
     ∷ row noStatus 0x00 0x00 0x00

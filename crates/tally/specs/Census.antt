@@ -1,4 +1,4 @@
--- The census: how many blocks were fed, and how many of each class (RULES 13).
+-- The census: how many blocks were fed, and how many of each class (RULES 14).
 use mathlib.Core.Bool.{Bool, cond, _||_, not}
 use mathlib.Core.List.{List, [], _∷_}
 use Prim.Native.Nat.{ℕ, _+_, _-_}

@@ -1,4 +1,4 @@
--- Blocks that are fed one after another (RULES 13).
+-- Blocks that are fed one after another (RULES 14).
 use mathlib.Core.Path.{_≡_}
 use mathlib.Core.Bool.{Bool, true, cond, _&&_, not}
 use mathlib.Core.List.{List, [], _∷_}
