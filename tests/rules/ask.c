@@ -192,6 +192,14 @@ static void read83(void)
     free(page.bytes);
 }
 
+static void say_numbers(const char *name, numbers given)
+{
+    printf("%s %s", name, given.count == 0 ? "-" : "");
+    for (size_t at = 0; at < given.count; at++)
+        printf("%s%u", at == 0 ? "" : ",", given.numbers[at]);
+    free(given.numbers);
+}
+
 static void roll(void)
 {
     piece blocks = next_piece();
@@ -200,11 +208,8 @@ static void roll(void)
     say("number", answer.number);
     say("blocks", answer.blocks);
     say("drives", answer.drives);
-    printf("rows %s", rows.count == 0 ? "-" : "");
-    for (size_t at = 0; at < rows.count; at++)
-        printf("%s%u", at == 0 ? "" : ",", rows.numbers[at]);
+    say_numbers("rows", rows);
     free(blocks.bytes);
-    free(rows.numbers);
 }
 
 static piongseut_intake next_intake(void)
@@ -250,11 +255,28 @@ static void gather(void)
     free(stores.bytes);
 }
 
+/* The counts of a census in the order of its fields, as one list. */
+static void feed(void)
+{
+    piongseut_census census = piongseut_census_empty();
+    numbers counts = next_numbers();
+    piece block = next_piece();
+    if (counts.count * sizeof *counts.numbers != sizeof census)
+        exit(1);
+    memcpy(&census, counts.numbers, sizeof census);
+    piongseut_census_answer answer = piongseut_census_feed(census, block.bytes, block.size);
+    memcpy(counts.numbers, &answer.next, sizeof answer.next);
+    say("number", answer.number);
+    say_numbers("census", counts);
+    free(block.bytes);
+}
+
 static const struct {
     const char *name;
     void (*call)(void);
 } entries[] = {{"empty", empty},   {"inquiry", inquiry}, {"submit", submit}, {"complete", complete}, {"write83", write83},
-               {"read83", read83}, {"roll", roll},       {"take", take},     {"block", block},       {"gather", gather}};
+               {"read83", read83}, {"roll", roll},       {"take", take},     {"block", block},       {"gather", gather},
+               {"feed", feed}};
 
 int main(void)
 {

@@ -13,7 +13,8 @@ FILL = 0xEE
 ROW_FILL = 0xEEEE
 START = {"block": "512 zero", "signature": "20 zero", "texts": "28 zero", "registers": "11 zero", "reply": "none", "declared": "0",
          "room": "600", "sense room": "24", "rows": "64", "run": "none"}
-OTHER_NAMES = ("command", "page", "blocks", "input", "haves", "stores", "have")
+OTHER_NAMES = ("command", "page", "blocks", "input", "haves", "stores", "have", "census")
+PROGRAMS = ("rollcall", "census")
 
 Step = collections.namedtuple("Step", "entry lent wanted")
 Case = collections.namedtuple("Case", "name line text steps")
@@ -70,6 +71,21 @@ def read_order(text):
 
 ORDER_FIELDS = ("length features count lba_low lba_mid lba_high quiet_seconds sectors_per_block device command protocol ck_cond"
                 " extend direction").split()
+
+
+def read_census(text):
+    """The counts of a census in the order of its fields: those that are not named are zero."""
+    counts = dict.fromkeys(CENSUS_COUNTS, 0)
+    for count in [] if text == "empty" else text.split("; "):
+        name, _, value = count.rpartition(" ")
+        if name not in counts:
+            raise Unreadable("no count of a census: " + count)
+        counts[name] = int(value)
+    return list(counts.values())
+
+
+CENSUS_COUNTS = ("blocks", "named", "unnamed", *("udma %s" % mode for mode in [*range(7), "none"]),
+                 *("version %s" % version for version in [*range(1, 15), "none"]))
 
 
 def items(text):
@@ -167,7 +183,7 @@ def spelt(piece):
 def unspelt(name, word):
     if name in ("order", "held"):
         return {field: int(value) for field, value in (pair.split(":") for pair in word.split(";"))}
-    if name == "rows":
+    if name in ("rows", "census"):
         return [] if word == "-" else [int(row) for row in word.split(",")]
     if name in ("reply", "room", "sense", "record", "name", "store"):
         return b"" if word == "-" else bytes.fromhex(word)
@@ -186,6 +202,7 @@ class Trial:
         empty = board.call("empty")
         self.record = self.emptied = empty["record"]
         self.have, self.sum, self.store = empty["have"], empty["sum"], filled(512)
+        self.counts = read_census("empty")
         self.made = {}
         self.differences = []
 
@@ -213,8 +230,10 @@ class Trial:
         self.lent.update(step.lent)
         if "have" in step.lent:
             self.have = int(step.lent["have"])
+        if "census" in step.lent:
+            self.counts = read_census(step.lent["census"])
         named = dict(step.wanted)
-        if "number" not in named and step.entry != "rollcall":
+        if "number" not in named and step.entry not in PROGRAMS:
             raise Unreadable("a step names no number")
         got, compare, always = getattr(self, step.entry)()
         for name, value in step.wanted:
@@ -343,9 +362,24 @@ class Trial:
         got = self.board.call("block", self.have, self.sum, len(self.store))
         return Outcome(got, {}, lambda named: self.want("count of a refusal", 0, got["count"]) if got["number"] else None)
 
+    def feed(self):
+        before = self.counts
+        got = self.board.call("feed", before, self.bytes("block"))
+        self.counts = got["census"]
+        def always(named):
+            if got["number"]:
+                self.want("census after a refusal", before, got["census"])
+        return Outcome(got, {"census": lambda text: self.want("census", read_census(text), got["census"])}, always)
+
     def rollcall(self):
-        """The program: every line that it prints."""
-        ran = subprocess.run(["./run", "rollcall"], input=self.bytes("input"), capture_output=True)
+        return self.program("rollcall")
+
+    def census(self):
+        return self.program("census")
+
+    def program(self, name):
+        """Every line that it prints."""
+        ran = subprocess.run(["./run", name], input=self.bytes("input"), capture_output=True)
         lines = iter(ran.stdout.decode("ascii").splitlines())
         return Outcome({}, {"prints": lambda text: self.want("prints", text, next(lines, "nothing"))},
                        lambda named: self.want("more lines, standard error", ([], b""), (list(lines), ran.stderr)))
@@ -415,10 +449,10 @@ def readings_lacking(text):
 
 
 def entries():
-    """The entries, as the header exports them; the two that make an empty record and intake need no example."""
+    """The entries, as the header exports them; those that make an empty record, intake and census need no example."""
     header = pathlib.Path("include/piongseut.h").read_text()
     short = {"write_page83": "write83", "read_page83": "read83", "intake_take": "take", "intake_block": "block",
-             "intake_gather": "gather"}
+             "intake_gather": "gather", "census_feed": "feed"}
     exported = re.findall(r"^piongseut_\w+ piongseut_(\w+)\(", header, re.M)
     return {short.get(name, name) for name in exported if not name.endswith("empty")}
 
@@ -426,10 +460,9 @@ def entries():
 def page_checks(text, table, cases):
     tried = {step.entry for case in cases for step in case.steps}
     names = {word for case in cases for word in re.findall(r"^C\d+", case.name)}
-    given = set(range(17)) | {18}
-    yield "the table has a row for each number from 1 to 16 and for 18", sorted(given - {0} ^ set(table))
-    yield "every number has an example", sorted(given - numbers_in(cases))
-    yield "every entry has an example", sorted((entries() | {"rollcall"}) - tried)
+    yield "the table has a row for each number from 1 to 18", sorted(set(range(1, 19)) ^ set(table))
+    yield "every number has an example", sorted(set(range(19)) - numbers_in(cases))
+    yield "every entry has an example", sorted((entries() | set(PROGRAMS)) - tried)
     yield "C1 to C13 are among the examples", sorted({"C%d" % n for n in range(1, 14)} - names)
     yield "every definition that the page names is there", list(undefined(text))
     yield "every section that a definition cites is there", list(sections_lacking(text))
