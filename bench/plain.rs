@@ -98,6 +98,22 @@ pub struct IntakeCount {
     count: usize,
 }
 
+#[repr(C)]
+#[derive(Clone, Copy, Default)]
+pub struct Census {
+    blocks: u16,
+    named: u16,
+    unnamed: u16,
+    udma: [u16; 8],
+    version: [u16; 15],
+}
+
+#[repr(C)]
+pub struct CensusAnswer {
+    next: Census,
+    number: u8,
+}
+
 // ---- Sense ----
 
 const FIELD: [u8; 3] = [0x05, 0x24, 0x00];
@@ -444,6 +460,38 @@ fn gather(haves: &[u16], stores: &[u8], room: &mut [u8]) -> Result<usize, u8> {
     Ok(room.len())
 }
 
+// ---- The census ----
+
+fn word(block: &Block, at: usize) -> u16 {
+    u16::from_le_bytes([block[2 * at], block[2 * at + 1]])
+}
+
+/// The place of the highest one bit, if any.
+fn highest(bits: u16) -> Option<usize> {
+    bits.checked_sub(1).map(|_| 15 - bits.leading_zeros() as usize)
+}
+
+/// Whether each grouping has as many blocks as the census.
+fn adds_up(census: &Census) -> bool {
+    let sum = |classes: &[u16]| classes.iter().map(|&class| u32::from(class)).sum::<u32>() == u32::from(census.blocks);
+    sum(&[census.named, census.unnamed]) && sum(&census.udma) && sum(&census.version)
+}
+
+fn census_feed(mut census: Census, block: &[u8]) -> Result<Census, u8> {
+    let block: &Block = block.try_into().map_err(|_| 1)?;
+    if census.blocks == u16::MAX || !adds_up(&census) {
+        return Err(17);
+    }
+    sound(block)?;
+    let modes = if word(block, 53) & 4 != 0 { word(block, 88) & 0x7F } else { 0 };
+    let versions = if word(block, 80) == 0xFFFF { 0 } else { word(block, 80) & 0x7FFE };
+    census.blocks += 1;
+    *(if carries_name(block) { &mut census.named } else { &mut census.unnamed }) += 1;
+    census.udma[highest(modes).unwrap_or(7)] += 1;
+    census.version[highest(versions).map_or(14, |version| version - 1)] += 1;
+    Ok(census)
+}
+
 // ---- The C calls. Each lends its pieces for as many bytes as the numbers behind the pointers say. ----
 
 use std::slice::{from_raw_parts as lent, from_raw_parts_mut as lent_mut};
@@ -554,5 +602,20 @@ pub unsafe extern "C" fn plain_intake_gather(
     match gather(lent(haves, intake_count), lent(stores, stores_size), lent_mut(room, room_size)) {
         Ok(count) => IntakeCount { number: 0, count },
         Err(number) => IntakeCount { number, count: 0 },
+    }
+}
+
+#[no_mangle]
+pub extern "C" fn plain_census_empty() -> Census {
+    Census::default()
+}
+
+/// # Safety
+/// As the header says of piongseut_census_feed.
+#[no_mangle]
+pub unsafe extern "C" fn plain_census_feed(census: Census, block: *const u8, block_size: usize) -> CensusAnswer {
+    match census_feed(census, lent(block, block_size)) {
+        Ok(next) => CensusAnswer { next, number: 0 },
+        Err(number) => CensusAnswer { next: census, number },
     }
 }

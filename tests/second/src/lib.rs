@@ -7,6 +7,7 @@
 
 #![forbid(unsafe_code)]
 
+pub mod census;
 pub mod completion;
 pub mod fault;
 pub mod identify;
@@ -20,6 +21,7 @@ pub mod pages;
 pub mod refusal;
 pub mod roll;
 
+pub use census::{census_empty, census_feed, Census, Fed};
 pub use completion::{complete, Ended};
 pub use inquiry::{inquiry, Inquiry};
 pub use intake::{block_size, gather, intake_empty, intake_take, Counted, Intake, RunTaken};

@@ -42,13 +42,15 @@ pub const ABOVE_DECLARED: u8 = 14;
 pub const NOTHING_PENDING: u8 = 15;
 /// No drive has this page 83h.
 pub const NOT_A_PAGE: u8 = 16;
+/// The census cannot count on: it is full, or no blocks make it.
+pub const CENSUS: u8 = 17;
 /// The block's bytes are not those that the drive sent.
 pub const DAMAGED: u8 = 18;
 
 /// The column Status of the table.
 pub fn status(number: u8) -> u8 {
     match number {
-        SIZE | ROOM | NOTHING_PENDING | NOT_A_PAGE | DAMAGED => NO_STATUS,
+        SIZE | ROOM | NOTHING_PENDING | NOT_A_PAGE | CENSUS | DAMAGED => NO_STATUS,
         PENDING => BUSY,
         _ => CHECK_CONDITION,
     }
