@@ -26,11 +26,12 @@ typedef struct {
     __typeof__(piongseut_roll) *roll;
     __typeof__(piongseut_intake_take) *take;
     __typeof__(piongseut_intake_gather) *gather;
+    __typeof__(piongseut_census_feed) *feed;
 } maker;
 
 #define MAKER(by)                                                                                                  \
     {by##_record_empty, by##_inquiry, by##_submit, by##_complete, by##_write_page83, by##_read_page83, by##_roll,  \
-     by##_intake_take, by##_intake_gather}
+     by##_intake_take, by##_intake_gather, by##_census_feed}
 static const maker board = MAKER(piongseut);
 #ifdef PLAIN
 __typeof__(piongseut_record_empty) plain_record_empty;
@@ -42,6 +43,7 @@ __typeof__(piongseut_read_page83) plain_read_page83;
 __typeof__(piongseut_roll) plain_roll;
 __typeof__(piongseut_intake_take) plain_intake_take;
 __typeof__(piongseut_intake_gather) plain_intake_gather;
+__typeof__(piongseut_census_feed) plain_census_feed;
 static const maker plain_maker = MAKER(plain), *const plain = &plain_maker;
 #else
 static const maker *const plain = NULL;
@@ -52,6 +54,7 @@ typedef struct {
     uint64_t said[4];
     piongseut_order order;
     piongseut_record record;
+    piongseut_census census;
     uint8_t name[PIONGSEUT_NAME_SIZE];
     uint16_t rows[PIONGSEUT_ROLL_BLOCKS];
     _Alignas(64) uint8_t room[PIONGSEUT_ROLL_BLOCKS * PIONGSEUT_BLOCK_SIZE];
@@ -66,7 +69,7 @@ typedef void make(const measured *, const maker *, left *);
 struct measured {
     const char *name;
     unsigned target;     /* instructions, 0 where none is set */
-    size_t bytes;        /* what the call delivers: reply, sense bytes, order, record, name, rows, a run, blocks */
+    size_t bytes;        /* what the call delivers: reply, sense bytes, order, record, name, rows, a run, blocks, a census */
     make *make;
     unsigned how;
     uint8_t command[16];
@@ -159,6 +162,17 @@ static void make_gather(const measured *one, const maker *by, left *to)
     SAID(to, answer.number, answer.count);
 }
 
+/* To a census that has the block a thousand times already. */
+static void make_feed(const measured *one, const maker *by, left *to)
+{
+    const piongseut_census census = {1000, 1000, 0, {0, 0, 0, 0, 0, 1000}, {0, 0, 0, 0, 0, 0, 0, 1000}};
+    piongseut_census_answer answer;
+    (void)one;
+    STACK_CALL(answer = by->feed(census, block, sizeof block));
+    SAID(to, answer.number);
+    to->census = answer.next;
+}
+
 __attribute__((noinline)) void bare_copy(uint8_t *to, const uint8_t *from, size_t count)
 {
     memcpy(to, from, count);
@@ -221,6 +235,7 @@ static const measured calls[] = {
     {"intake, block in one run", 0, 512, make_take, 0, {0}},
     {"intake, run of 8 bytes", 0, 8, make_take, PART, {0}},
     {"gather, 64 intakes", 0, sizeof blocks, make_gather, 0, {0}},
+    {"census, one block", 0, sizeof(piongseut_census), make_feed, 0, {0}},
 };
 
 /* ---- Before and after a call ---- */

@@ -7,8 +7,8 @@
 #include <stdio.h>
 #include <string.h>
 
-/* What rooms are filled with, the refusal of a damaged block, and where sense data has the registers. */
-enum { FILL = 0xA5, DAMAGED = 18, REGISTERS_AT = PIONGSEUT_SENSE_SIZE - PIONGSEUT_REGISTERS_SIZE };
+/* What rooms are filled with, the refusals of a census and of a damaged block, and where sense data has the registers. */
+enum { FILL = 0xA5, WRONG_CENSUS = 17, DAMAGED = 18, REGISTERS_AT = PIONGSEUT_SENSE_SIZE - PIONGSEUT_REGISTERS_SIZE };
 
 static int passed;
 static int failed;
@@ -528,6 +528,40 @@ static void intakes(void)
     intake_rolls(store);
 }
 
+/* Whether a census is refused with this number, and comes back as it was. */
+static int census_refused(piongseut_census census, size_t size, uint8_t number)
+{
+    piongseut_census_answer answer = piongseut_census_feed(census, block, size);
+    return answer.number == number && memcmp(&answer.next, &census, sizeof census) == 0;
+}
+
+/* C1's block with Ultra DMA mode 5 and version 8, then with neither; a census that is full, and one that no blocks make. */
+static void censuses(void)
+{
+    static const piongseut_census none = {0, 0, 0, {0}, {0}};
+    piongseut_census full = {0xFFFF, 0xFFFF, 0, {0, 0, 0, 0, 0, 0, 0, 0xFFFF}, {0xFFFF}};
+    piongseut_census census = piongseut_census_empty();
+    check(memcmp(&census, &none, sizeof none) == 0, "an empty census counts nothing");
+    prepare();
+    block[106] = 0x04;
+    block[160] = 0xF8;
+    block[161] = 0x01;
+    block[176] = 0x3F;
+    census = piongseut_census_feed(census, block, sizeof block).next;
+    check(census.blocks == 1 && census.named == 1 && census.unnamed == 0 && census.udma[5] == 1 && census.version[7] == 1,
+          "a block with a name, mode 5 and version 8");
+    memset(block, 0, sizeof block);
+    census = piongseut_census_feed(census, block, sizeof block).next;
+    check(census.blocks == 2 && census.named == 1 && census.unnamed == 1 && census.udma[7] == 1 && census.version[14] == 1,
+          "a block with none of them");
+    check(census_refused(full, sizeof block, WRONG_CENSUS), "a census of 65,535 blocks, 17");
+    check(census_refused(full, 0, PIONGSEUT_REFUSED_SIZE), "no block, 1");
+    full.blocks--;
+    check(census_refused(full, sizeof block, WRONG_CENSUS), "groupings of a block too many, 17");
+    block[510] = 0xA5;
+    check(census_refused(census, sizeof block, DAMAGED), "a damaged block, 18");
+}
+
 int main(void)
 {
     version();
@@ -545,6 +579,7 @@ int main(void)
     damaged_block();
     rolls();
     intakes();
+    censuses();
     printf("uses_all: %d passed, %d failed\n", passed, failed);
     return failed != 0;
 }

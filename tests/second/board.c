@@ -9,7 +9,8 @@
  * An answer: u32 bytes that follow; u8 function; u8 guard (0: untouched); the fields of what came back, in the header's order;
  *            the record, 28 bytes; the bytes of every piece, the const ones too.
  * INTAKE_INQUIRY and INTAKE_ROLL are two functions each, one after the other, as a C program uses them: the second is lent what
- * the first one counted. Where the first refuses, the second is not called, and its answer is one that has nothing.
+ * the first one counted. Where the first refuses, the second is not called, and its answer is one that has nothing. The census
+ * that is fed is a piece, its 26 numbers in the header's order, and goes to the function by value.
  */
 #include "piongseut.h"
 
@@ -18,14 +19,15 @@
 #include <string.h>
 #include <unistd.h>
 
-enum { RECORD_EMPTY, INQUIRY, SUBMIT, COMPLETE, WRITE, READ, ROLL, INTAKE_EMPTY, INTAKE_TAKE, INTAKE_INQUIRY, INTAKE_ROLL, FUNCTIONS };
+enum { RECORD_EMPTY, INQUIRY, SUBMIT, COMPLETE, WRITE, READ, ROLL, INTAKE_EMPTY, INTAKE_TAKE, INTAKE_INQUIRY, INTAKE_ROLL,
+       CENSUS_EMPTY, CENSUS_FEED, FUNCTIONS };
 
 #define GUARD 64
 #define PIECES 7
 #define RECORD_GUARD 255
 #define BATCH_MOST (4u << 20)
 
-static const unsigned pieces_of[FUNCTIONS] = {0, 7, 3, 2, 2, 1, 2, 0, 2, 7, 4};
+static const unsigned pieces_of[FUNCTIONS] = {0, 7, 3, 2, 2, 1, 2, 0, 2, 7, 4, 0, 2};
 
 static uint8_t batch[BATCH_MOST];
 static uint8_t answers[4 * BATCH_MOST];
@@ -102,10 +104,10 @@ static void take_intake(void)
     intake.sum = (uint16_t)take(2);
 }
 
-/* Whether a piece is 16-bit numbers: rows, or what intakes have. */
+/* Whether a piece is 16-bit numbers: rows, what intakes have, or a census. */
 static int of_sixteen_bits(unsigned function, unsigned at)
 {
-    return (function == ROLL && at == 1) || (function == INTAKE_ROLL && (at == 0 || at == 3));
+    return (function == ROLL && at == 1) || (function == INTAKE_ROLL && (at == 0 || at == 3)) || (function == CENSUS_FEED && at == 0);
 }
 
 /* Lays the pieces out with a guard before the first and behind each. The start moves, so that a piece meets every alignment. */
@@ -229,7 +231,8 @@ static void tell_stack(void)
 {
     static const char *const names[FUNCTIONS] = {
         "record_empty", "inquiry",      "submit",      "complete",     "write_page83", "read_page83",
-        "roll",         "intake_empty", "intake_take", "intake_block", "intake_gather",
+        "roll",         "intake_empty", "intake_take", "intake_block", "intake_gather", "census_empty",
+        "census_feed",
     };
     for (unsigned at = 0; at < FUNCTIONS; at++)
         fprintf(stderr, "piongseut_%s %zu %lu\n", names[at], used[at].deepest, used[at].calls);
@@ -340,6 +343,52 @@ static void call_intake_roll(void)
     put_roll(answer);
 }
 
+/* The form that a census has in C stands here alone. */
+enum { MODES = 8, VERSIONS = 15, CENSUS_NUMBERS = 3 + MODES + VERSIONS };
+
+static piongseut_census lent_census(void)
+{
+    piongseut_census census;
+    const uint16_t *number = (const uint16_t *)(const void *)piece[0].at;
+    if (piece[0].size != 2 * CENSUS_NUMBERS)
+        die("a census of another size");
+    census.blocks = *number++;
+    census.named = *number++;
+    census.unnamed = *number++;
+    for (unsigned at = 0; at < MODES; at++)
+        census.udma[at] = *number++;
+    for (unsigned at = 0; at < VERSIONS; at++)
+        census.version[at] = *number++;
+    return census;
+}
+
+static void put_census(const piongseut_census *census)
+{
+    put(census->blocks, 2);
+    put(census->named, 2);
+    put(census->unnamed, 2);
+    for (unsigned at = 0; at < MODES; at++)
+        put(census->udma[at], 2);
+    for (unsigned at = 0; at < VERSIONS; at++)
+        put(census->version[at], 2);
+}
+
+static void call_census_empty(void)
+{
+    piongseut_census empty;
+    CALL(CENSUS_EMPTY, empty = piongseut_census_empty());
+    put_census(&empty);
+}
+
+static void call_census_feed(void)
+{
+    const piongseut_census census = lent_census();
+    piongseut_census_answer answer;
+    CALL(CENSUS_FEED, answer = piongseut_census_feed(census, LENT(1)));
+    put_census(&answer.next);
+    put(answer.number, 1);
+}
+
 static void call(unsigned function, uint32_t declared)
 {
     piongseut_record empty;
@@ -357,7 +406,9 @@ static void call(unsigned function, uint32_t declared)
     case INTAKE_EMPTY: call_intake_empty(); break;
     case INTAKE_TAKE: call_intake_take(); break;
     case INTAKE_INQUIRY: call_intake_inquiry(); break;
-    default: call_intake_roll(); break;
+    case INTAKE_ROLL: call_intake_roll(); break;
+    case CENSUS_EMPTY: call_census_empty(); break;
+    default: call_census_feed(); break;
     }
 }
 

@@ -2,8 +2,8 @@
 //! pair that can apply together was tried, and that the first one answered.
 
 use crate::call::{
-    numbers_in, Call, COMPLETE, INQUIRY, INTAKE_INQUIRY, INTAKE_ROLL, INTAKE_TAKE, READ, ROLL,
-    SUBMIT, WRITE,
+    census_in, numbers_in, Call, CENSUS_FEED, COMPLETE, INQUIRY, INTAKE_INQUIRY, INTAKE_ROLL,
+    INTAKE_TAKE, READ, ROLL, SUBMIT, WRITE,
 };
 use crate::lent::carries_name;
 
@@ -12,7 +12,7 @@ pub type Set = u32;
 
 /// The pairs that can apply together, by function. The fields of a command
 /// that is short or has another opcode are not looked at.
-pub const PAIRS: [(u8, &[(usize, usize)]); 7] = [
+pub const PAIRS: [(u8, &[(usize, usize)]); 8] = [
     (INQUIRY, &IN_INQUIRY),
     (SUBMIT, &IN_SUBMIT),
     (COMPLETE, &[(1, 15)]),
@@ -20,6 +20,7 @@ pub const PAIRS: [(u8, &[(usize, usize)]); 7] = [
     (ROLL, &[(1, 18)]),
     (INTAKE_INQUIRY, &IN_INQUIRY),
     (INTAKE_ROLL, &[(1, 8), (1, 18), (8, 18)]),
+    (CENSUS_FEED, &[(1, 17), (17, 18)]),
 ];
 
 const IN_INQUIRY: [(usize, usize); 19] = [
@@ -77,12 +78,13 @@ fn set(conditions: &[(usize, bool)]) -> Set {
     held.fold(0, |set, (number, _)| set | 1 << number)
 }
 
-/// The refusal that answers: 1, then 18, then the lowest number; 2 and 3 never
-/// apply together.
+/// The refusal that answers: 1, then 17 and 18, then the lowest number; 2 and 3
+/// never apply together.
 pub fn first(set: Set) -> u32 {
     match set {
         0 => 0,
         _ if set >> 1 & 1 == 1 => 1,
+        _ if set >> 17 & 1 == 1 => 17,
         _ if set >> 18 & 1 == 1 => 18,
         _ => set.trailing_zeros(),
     }
@@ -120,8 +122,25 @@ pub fn to(call: &Call) -> Set {
         INTAKE_TAKE => set(&[(1, intake_is_refused(call))]),
         INTAKE_INQUIRY => set(&[(1, intake_is_refused(call))]) | to_its_block(call),
         INTAKE_ROLL => to_intakes(call, &sizes),
+        CENSUS_FEED => set(&[
+            (1, sizes[1] != 512),
+            (17, census_is_refused(&call.pieces[0])),
+            (18, is_damaged(&call.pieces[1])),
+        ]),
         _ => 0,
     }
+}
+
+/// A full census, or one of which a grouping has more or fewer blocks.
+fn census_is_refused(piece: &[u8]) -> bool {
+    let census = census_in(piece);
+    let sum = |counts: &[u16]| counts.iter().map(|&count| u64::from(count)).sum::<u64>();
+    let sums = [
+        sum(&[census.named, census.unnamed]),
+        sum(&census.udma),
+        sum(&census.version),
+    ];
+    census.blocks == 0xFFFF || sums.iter().any(|&sum| sum != u64::from(census.blocks))
 }
 
 fn roll_is_refused(bytes: usize, rows: usize) -> bool {

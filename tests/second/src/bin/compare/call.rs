@@ -1,7 +1,7 @@
 //! A call of one of the board's functions: its bytes on the way to the board,
 //! and what the second program answers, as the board would write it.
 
-use second::{Counted, Inquiry, Intake, Order, Record, Roll};
+use second::{Census, Counted, Inquiry, Intake, Order, Record, Roll};
 
 pub const EMPTY: u8 = 0;
 pub const INQUIRY: u8 = 1;
@@ -16,8 +16,11 @@ pub const INTAKE_TAKE: u8 = 8;
 pub const INTAKE_INQUIRY: u8 = 9;
 /// The roll of what was gathered of intakes: two functions, too.
 pub const INTAKE_ROLL: u8 = 10;
+pub const CENSUS_EMPTY: u8 = 11;
+/// The census is lent as a piece, as 26 numbers, and goes by value.
+pub const CENSUS_FEED: u8 = 12;
 
-pub const NAMES: [&str; 11] = [
+pub const NAMES: [&str; 13] = [
     "empty",
     "inquiry",
     "submit",
@@ -29,10 +32,12 @@ pub const NAMES: [&str; 11] = [
     "intake_take",
     "intake_block, inquiry",
     "intake_gather, roll",
+    "census_empty",
+    "census_feed",
 ];
 
 /// The lent pieces of each function, in the header's order.
-pub const PIECES: [&[&str]; 11] = [
+pub const PIECES: [&[&str]; 13] = [
     &[],
     &[
         "command",
@@ -60,6 +65,8 @@ pub const PIECES: [&[&str]; 11] = [
         "sense",
     ],
     &["haves", "stores", "room", "rows"],
+    &[],
+    &["census", "block"],
 ];
 
 /// The pieces of a function that are 16-bit numbers.
@@ -67,6 +74,7 @@ pub fn sixteen_bits(function: u8) -> &'static [usize] {
     match function {
         ROLL => &[1],
         INTAKE_ROLL => &[0, 3],
+        CENSUS_FEED => &[0],
         _ => &[],
     }
 }
@@ -186,7 +194,9 @@ impl Call {
             INTAKE_EMPTY => answer_intake_empty(&record, out),
             INTAKE_TAKE => self.answer_take(&record, out),
             INTAKE_INQUIRY => self.answer_intake_inquiry(&record, out),
-            _ => self.answer_intake_roll(&record, out),
+            INTAKE_ROLL => self.answer_intake_roll(&record, out),
+            CENSUS_EMPTY => answer_census_empty(&record, out),
+            _ => self.answer_census_feed(&record, out),
         };
         put_size(start, out);
         Said { number, record }
@@ -309,6 +319,15 @@ impl Call {
         rows.iter().for_each(|row| out.extend(row.to_le_bytes()));
         roll.number
     }
+
+    fn answer_census_feed(&self, record: &Record, out: &mut Vec<u8>) -> u8 {
+        let fed = second::census_feed(census_in(&self.pieces[0]), &self.pieces[1]);
+        out.extend(census_bytes(&fed.next));
+        out.push(fed.number);
+        put_record(record, out);
+        self.pieces.iter().for_each(|piece| out.extend(piece));
+        fed.number
+    }
 }
 
 /// What stands for the INQUIRY where the intake is refused: an INQUIRY with a
@@ -349,6 +368,38 @@ fn answer_intake_empty(record: &Record, out: &mut Vec<u8>) -> u8 {
     put_intake(&second::intake_empty(), out);
     put_record(record, out);
     0
+}
+
+fn answer_census_empty(record: &Record, out: &mut Vec<u8>) -> u8 {
+    out.extend(census_bytes(&second::census_empty()));
+    put_record(record, out);
+    0
+}
+
+/// A census as its 26 numbers, in the header's order.
+pub fn census_bytes(census: &Census) -> Vec<u8> {
+    let mut numbers = vec![census.blocks, census.named, census.unnamed];
+    numbers.extend(census.udma);
+    numbers.extend(census.version);
+    numbers
+        .iter()
+        .flat_map(|number| number.to_le_bytes())
+        .collect()
+}
+
+/// The census of these bytes; numbers that are not there are zero.
+pub fn census_in(bytes: &[u8]) -> Census {
+    let mut numbers = numbers_in(bytes);
+    numbers.resize(26, 0);
+    let mut census = Census {
+        blocks: numbers[0],
+        named: numbers[1],
+        unnamed: numbers[2],
+        ..Census::default()
+    };
+    census.udma.copy_from_slice(&numbers[3..11]);
+    census.version.copy_from_slice(&numbers[11..]);
+    census
 }
 
 /// Writes the number of bytes behind `start` + 4 at `start`.

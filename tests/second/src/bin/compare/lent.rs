@@ -1,7 +1,7 @@
 //! Pieces that the inputs are made of: blocks, signatures, texts, records.
 
 use crate::call::{self, Call};
-use second::{Intake, Order, Record};
+use second::{Census, Intake, Order, Record};
 
 /// Fills lent room before a call, so that a written byte is seen.
 pub const FILL: u8 = 0xA5;
@@ -224,6 +224,11 @@ pub fn intake_roll(haves: &[u16], stores: &[u8], space: usize, rows: usize) -> C
     let haves = haves.iter().flat_map(|have| have.to_le_bytes()).collect();
     let pieces = vec![haves, stores.to_vec(), room(space), room(2 * rows)];
     Call::new(call::INTAKE_ROLL, pieces)
+}
+
+pub fn feed(census: &Census, block: &[u8]) -> Call {
+    let pieces = vec![call::census_bytes(census), block.to_vec()];
+    Call::new(call::CENSUS_FEED, pieces)
 }
 
 /// The page 83h that a block has.

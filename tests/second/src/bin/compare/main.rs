@@ -12,6 +12,7 @@
 mod applies;
 mod board;
 mod call;
+mod censuses;
 mod inquiries;
 mod intakes;
 mod lent;
@@ -116,7 +117,7 @@ fn real_blocks(folder: &str) -> io::Result<Vec<Vec<u8>>> {
 /// A class of inputs that takes nothing but the board.
 type Inputs = fn(&mut Board);
 
-const CLASSES: [(&str, Inputs); 36] = [
+const CLASSES: [(&str, Inputs); 38] = [
     ("soundings C1 to C13", soundings::numbered),
     ("the other soundings", soundings::others),
     ("published examples", soundings::published),
@@ -162,6 +163,8 @@ const CLASSES: [(&str, Inputs); 36] = [
     ("intake: inquiry, pages of every block", intakes::pages),
     ("intake: rolls, sizes and rows", intakes::roll_sizes),
     ("intake: rolls, damaged stores", intakes::roll_damaged),
+    ("census: words 53, 80 and 88", censuses::words),
+    ("census: refusals alone and together", censuses::refusals),
 ];
 
 fn pages_written(board: &mut Board) {
@@ -219,6 +222,8 @@ struct Agreed {
     streams: bool,
     /// Two allocation lengths of one request.
     cuts: bool,
+    /// Class counts and the blocks of each class.
+    classes: bool,
 }
 
 /// The classes that take a seed or the real blocks.
@@ -237,6 +242,8 @@ fn seeded(board: &mut Board, asked: &Asked) -> Agreed {
     soundings::real_drives(board, &asked.real);
     board.class("inquiry: two allocation lengths of one request");
     let cuts = random::cut_again(board, asked.seed, &asked.real);
+    board.class("census: fleets of drives");
+    let classes = censuses::fleets(board, &asked.real, asked.seed);
     board.class("sequences through one record");
     orders::sequences(board, asked.seed);
     if asked.calls > 0 {
@@ -247,6 +254,7 @@ fn seeded(board: &mut Board, asked: &Asked) -> Agreed {
         pages,
         streams,
         cuts,
+        classes,
     }
 }
 
@@ -280,6 +288,10 @@ fn coverage(board: &Board, agreed: &Agreed, report: &mut Report) {
     report.check(
         agreed.cuts,
         "inquiry: the lesser allocation length shows the first part of the greater",
+    );
+    report.check(
+        agreed.classes,
+        "census: each class has as many blocks as were fed to it",
     );
     report.check(
         cover(&board.counts),
@@ -316,7 +328,7 @@ fn pairs_tried(board: &Board, report: &mut Report) {
 }
 
 /// The numbers that each function can give, as the header says.
-const GIVEN: [&[usize]; 11] = [
+const GIVEN: [&[usize]; 13] = [
     &[0],
     &[0, 1, 2, 3, 4, 5, 6, 7, 8, 18],
     &[0, 1, 2, 3, 4, 9, 10, 11, 12, 13, 14],
@@ -328,6 +340,8 @@ const GIVEN: [&[usize]; 11] = [
     &[0, 1],
     &[0, 1, 2, 3, 4, 5, 6, 7, 8, 18],
     &[0, 1, 8, 18],
+    &[0],
+    &[0, 1, 17, 18],
 ];
 
 /// Prints how often each number was given. Back: every one that can be was.

@@ -1,7 +1,8 @@
 //! Seeded random and damaged inputs of every function.
 
 use crate::board::Board;
-use crate::call::{sixteen_bits, Call, COMPLETE, INQUIRY};
+use crate::call::{sixteen_bits, Call, CENSUS_FEED, COMPLETE, INQUIRY};
+use crate::censuses;
 use crate::lent;
 use crate::numbers::Numbers;
 use second::Intake;
@@ -15,7 +16,7 @@ pub fn calls(board: &mut Board, seed: u64, count: u64, real: &[Vec<u8>]) {
         if board.is_done() {
             return;
         }
-        let mut call = match numbers.below(110) {
+        let mut call = match numbers.below(116) {
             0..=39 => submit(&mut numbers),
             40..=55 => complete(&mut numbers),
             56..=76 => inquiry(&mut numbers, &known),
@@ -24,7 +25,8 @@ pub fn calls(board: &mut Board, seed: u64, count: u64, real: &[Vec<u8>]) {
             98..=99 => roll(&mut numbers, &known),
             100..=105 => take(&mut numbers, &known),
             106..=108 => intake_inquiry(&mut numbers, &known),
-            _ => intake_roll(&mut numbers, &known),
+            109 => intake_roll(&mut numbers, &known),
+            _ => feed(&mut numbers, &known),
         };
         if numbers.once_in(3) {
             damage(&mut call, &mut numbers);
@@ -70,9 +72,12 @@ fn shown(board: &mut Board, call: &mut Call, length: u16) -> Option<Vec<u8>> {
     (answer.number == 0).then(|| from[..answer.count].to_vec())
 }
 
-/// Changes, cuts or extends one of the lent pieces.
+/// Changes, cuts or extends one of the lent pieces. A census has one size.
 fn damage(call: &mut Call, numbers: &mut Numbers) {
-    let at = numbers.below(call.pieces.len());
+    let at = match call.function {
+        CENSUS_FEED => 1,
+        _ => numbers.below(call.pieces.len()),
+    };
     let piece = &mut call.pieces[at];
     match numbers.below(3) {
         0 if !piece.is_empty() => {
@@ -98,7 +103,7 @@ fn block(numbers: &mut Numbers, known: &[Vec<u8>]) -> Vec<u8> {
     let mut block = known[numbers.below(known.len())].clone();
     for _ in 0..numbers.below(6) {
         let texts = [(20, 20), (46, 8), (54, 40)];
-        let others = [(0, 2), (174, 2), (216, 8), (0, 512)];
+        let others = [(0, 2), (160, 2), (174, 4), (216, 8), (0, 512)];
         let field = match numbers.below(2) {
             0 => numbers.pick(&texts),
             _ => numbers.pick(&others),
@@ -263,6 +268,24 @@ fn roll(numbers: &mut Numbers, known: &[Vec<u8>]) -> Call {
     let rows = blocks.len() + numbers.below(3);
     call.pieces[1] = numbers.bytes(2 * rows);
     call
+}
+
+/// A block for a census that could have come about, or nearly.
+fn feed(numbers: &mut Numbers, known: &[Vec<u8>]) -> Call {
+    let blocks = match numbers.below(4) {
+        0 => 65_500 + numbers.below(36),
+        1 => numbers.below(4),
+        _ => numbers.below(65_536),
+    };
+    let mut census = censuses::of(blocks as u16, numbers);
+    if numbers.once_in(4) {
+        censuses::change(&mut census, numbers);
+    }
+    let mut block = block(numbers, known);
+    if numbers.once_in(2) {
+        block[106] |= 0x04;
+    }
+    lent::feed(&census, &block)
 }
 
 /// Up to 66 blocks, mostly few, with drives that come again.

@@ -92,6 +92,11 @@ fn came_back(function: u8, from: &mut Bytes) -> Option<String> {
         }
         call::INTAKE_INQUIRY => format!("block: {}; {}", counted(from)?, inquiry(from)?),
         call::INTAKE_ROLL => format!("gathered: {}; {}", counted(from)?, roll(from)?),
+        call::CENSUS_EMPTY => format!("{:?}", call::census_in(from.take(52)?)),
+        call::CENSUS_FEED => {
+            let next = call::census_in(from.take(52)?);
+            format!("number {} {next:?}", from.number(1)?)
+        }
         _ => roll(from)?,
     })
 }
