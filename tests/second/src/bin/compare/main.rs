@@ -1,8 +1,9 @@
 //! Compares the proved board with the second program, byte for byte.
 //!
 //! `compare all [seed=N] [calls=N] data=DIR -- BOARD...` tries every class of
-//! inputs; `compare first data=DIR -- BOARD...` ends at the first difference
-//! and leaves out the random inputs; `compare replay HEX -- BOARD...` shows
+//! inputs; `compare first [begin=WORD] data=DIR -- BOARD...` ends at the first
+//! difference and leaves out the random inputs; the classes whose names begin
+//! with WORD come first; `compare replay HEX -- BOARD...` shows
 //! both answers to one call, and reads the digits from standard input where
 //! HEX is `-`; `compare faults` names the faults that can be planted. Exit
 //! status 1 is a difference, 2 a test that could not be made.
@@ -37,6 +38,7 @@ struct Asked {
     seed: u64,
     calls: u64,
     first: bool,
+    begin: String,
     real: Vec<Vec<u8>>,
     board: Vec<String>,
 }
@@ -75,6 +77,7 @@ fn asked(arguments: &[String], first: bool) -> io::Result<Asked> {
         seed: SEED,
         calls: if first { 0 } else { CALLS },
         first,
+        begin: String::new(),
         real: Vec::new(),
         board: behind_dashes(arguments)?,
     };
@@ -83,6 +86,7 @@ fn asked(arguments: &[String], first: bool) -> io::Result<Asked> {
         match argument.split_once('=') {
             Some(("seed", text)) => asked.seed = number(text)?,
             Some(("calls", text)) => asked.calls = number(text)?,
+            Some(("begin", word)) => asked.begin = word.to_string(),
             Some(("data", folder)) => asked.real = real_blocks(folder)?,
             _ => return Err(trouble(format!("what is {argument}?"))),
         }
@@ -177,7 +181,9 @@ fn pages_written(board: &mut Board) {
 fn run(asked: Asked) -> io::Result<bool> {
     let mut board = Board::start(&asked.board, asked.first)?;
     println!("seed {}", asked.seed);
-    for (name, inputs) in CLASSES {
+    let sooner = |class: &&(&str, Inputs)| class.0.starts_with(&asked.begin);
+    let (sooner, later): (Vec<_>, Vec<_>) = CLASSES.iter().partition(sooner);
+    for (name, inputs) in sooner.into_iter().chain(later) {
         if board.is_done() {
             break;
         }
