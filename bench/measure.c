@@ -236,6 +236,7 @@ static const measured calls[] = {
     {"intake, run of 8 bytes", 0, 8, make_take, PART, {0}},
     {"gather, 64 intakes", 0, sizeof blocks, make_gather, 0, {0}},
     {"census, one block", 0, sizeof(piongseut_census), make_feed, 0, {0}},
+    {"census, one block, A5h", 0, sizeof(piongseut_census), make_feed, SUMMED, {0}},
 };
 
 /* ---- Before and after a call ---- */

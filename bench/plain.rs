@@ -80,16 +80,16 @@ pub struct RollAnswer {
 
 #[repr(C)]
 pub struct Intake {
-    have: u16,
-    sum: u16,
+    pub have: u16,
+    pub sum: u16,
 }
 
 #[repr(C)]
 pub struct IntakeAnswer {
-    next: Intake,
-    used: u16,
-    number: u8,
-    complete: u8,
+    pub next: Intake,
+    pub used: u16,
+    pub number: u8,
+    pub complete: u8,
 }
 
 #[repr(C)]
@@ -101,17 +101,17 @@ pub struct IntakeCount {
 #[repr(C)]
 #[derive(Clone, Copy, Default)]
 pub struct Census {
-    blocks: u16,
-    named: u16,
-    unnamed: u16,
-    udma: [u16; 8],
-    version: [u16; 15],
+    pub blocks: u16,
+    pub named: u16,
+    pub unnamed: u16,
+    pub udma: [u16; 8],
+    pub version: [u16; 15],
 }
 
 #[repr(C)]
 pub struct CensusAnswer {
-    next: Census,
-    number: u8,
+    pub next: Census,
+    pub number: u8,
 }
 
 // ---- Sense ----
