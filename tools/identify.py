@@ -51,7 +51,7 @@ def carries_name(block):
 
 
 def damaged(block):
-    """Byte 510, the low byte of word 255, is A5h, and the 512 bytes do not sum to 0 modulo 256."""
+    """A5h in byte 510 says that the bytes sum to a multiple of 256, and they do not."""
     return len(block) == SIZE and word(block, 255) & 0xFF == 0xA5 and sum(block) % 256 != 0
 
 
