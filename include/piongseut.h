@@ -13,7 +13,7 @@
  *
  * The functions hold no state of their own, allocate nothing, lock nothing and always return, so an interrupt handler may call them
  * if it sees to this:
- *  - The code uses the SSE registers (about one instruction in six names an xmm register; none names an x87, MMX or AVX register).
+ *  - The code uses the SSE registers (about one instruction in four names an xmm register; none names an x87, MMX or AVX register).
  *    A handler has to save the SSE state before a call and put it back after it, or run where kernel or firmware does.
  *  - The archive has one symbol open. Needed of the host: memset.
  *    A handler has to be linked with one that leaves alone what the handler does not save: many use AVX registers. The figure below
