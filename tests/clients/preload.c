@@ -16,59 +16,35 @@
 #include <sys/syscall.h>
 #include <unistd.h>
 
-#include "drive.h"
+#include "bridge.h"
 
-enum { INQUIRY = 0x12, PASS_THROUGH_16 = 0x85 };
 enum { DID_ERROR = 7, DRIVER_SENSE = 8 }; /* the kernel's numbers, in no public header */
-enum { NODES = 16, SENSE = 32, MOST = 1 << 20 };
+enum { NODES = 16 };
 
 static const char heading[] = "piongseut drive\n";
-static const uint8_t texts[] = "PIONGSEU" "SATA BRIDGE     " "0001";
 
-/* One plain file: its drive, and the board's record of a pending order. */
+/* One plain file, and the bay that it stands for. */
 typedef struct {
     dev_t device;
     ino_t number;
-    drive drive;
-    piongseut_record record;
+    bay bay;
 } node;
-
-/* One command on its way through the board. */
-typedef struct {
-    const uint8_t *command;
-    size_t command_size;
-    uint8_t *data;
-    size_t declared;
-    int direction; /* the host's, in the order's numbers */
-    uint8_t number, status, sense[SENSE];
-    size_t moved;
-} exchange;
 
 static node nodes[NODES];
 static size_t nodes_used;
-
-static void die(const char *why)
-{
-    fprintf(stderr, "piongseut preload: %s\n", why);
-    exit(120);
-}
 
 /* ---- which files are drives ---- */
 
 static node *new_node(const struct stat *s, const char *text)
 {
-    char complaint[300];
-    const char *folder = getenv("PIONGSEUT_DATA");
-    if (nodes_used == NODES)
-        die("too many drives in one client");
-    if (!folder)
-        die("PIONGSEUT_DATA is not set");
+    if (nodes_used == NODES) {
+        fprintf(stderr, "piongseut preload: too many drives in one client\n");
+        exit(120);
+    }
     node *n = &nodes[nodes_used++];
     n->device = s->st_dev;
     n->number = s->st_ino;
-    n->record = piongseut_record_empty();
-    if (drive_describe(&n->drive, text, folder, complaint, sizeof complaint) < 0)
-        die(complaint);
+    bay_fill(&n->bay, text);
     return n;
 }
 
@@ -87,91 +63,6 @@ static node *node_of(int fd)
         return NULL;
     text[size] = 0;
     return strncmp(text, heading, strlen(heading)) ? NULL : new_node(&s, text);
-}
-
-/* ---- the log ---- */
-
-static void put_hex(FILE *out, const uint8_t *bytes, size_t size)
-{
-    for (size_t i = 0; i < size; i++)
-        fprintf(out, "%02x", bytes[i]);
-}
-
-static size_t sense_size(const exchange *x)
-{
-    size_t size = x->status == PIONGSEUT_CHECK_CONDITION ? 8u + x->sense[7] : 0;
-    return size < SENSE ? size : SENSE;
-}
-
-static void log_command(const exchange *x)
-{
-    const char *name = getenv("PIONGSEUT_LOG");
-    FILE *out = name ? fopen(name, "a") : NULL;
-    if (!out) {
-        if (name)
-            die("cannot write the file that PIONGSEUT_LOG names");
-        return;
-    }
-    fprintf(out, "%s ", program_invocation_short_name);
-    put_hex(out, x->command, x->command_size);
-    fprintf(out, " number=%u status=%02x moved=%zu sense=", x->number, x->status, x->moved);
-    put_hex(out, x->sense, sense_size(x));
-    fputc('\n', out);
-    fclose(out);
-}
-
-/* ---- through the board ---- */
-
-static void inquire(node *n, exchange *x)
-{
-    uint8_t room[PIONGSEUT_PAGE89_SIZE], reply[PIONGSEUT_PAGE89_SIZE];
-    const drive *d = &n->drive;
-    size_t replied = drive_inquiry(d, x->command, x->command_size, reply, sizeof reply);
-    piongseut_inquiry_answer a = piongseut_inquiry(
-        x->command, x->command_size, d->identify, d->identify_size, d->signature,
-        sizeof d->signature, texts, sizeof texts - 1, reply, replied, room, sizeof room,
-        x->sense, sizeof x->sense);
-    x->number = a.number;
-    x->status = a.status;
-    x->moved = a.count < x->declared ? a.count : x->declared;
-    if (x->moved > sizeof room)
-        die("the board shows more bytes than it was lent");
-    if (x->moved)
-        memcpy(x->data, a.shown == PIONGSEUT_SHOWN_ROOM ? room : reply, x->moved);
-}
-
-static void pass_through(node *n, exchange *x)
-{
-    drive *d = &n->drive;
-    piongseut_submit_answer s = piongseut_submit(
-        &n->record, x->command, x->command_size, d->registers, sizeof d->registers,
-        (uint32_t)x->declared, x->sense, sizeof x->sense);
-    x->number = s.number;
-    x->status = s.status;
-    if (s.number != PIONGSEUT_ACCEPTED || s.status != PIONGSEUT_NONE)
-        return;
-    if (s.order.length > x->declared)
-        die("the board took an order longer than the host's buffer");
-    /* a host that lends its buffer for the other direction gets no data and no status */
-    int fits = s.order.direction == PIONGSEUT_DIRECTION_NONE || s.order.direction == x->direction;
-    if (fits)
-        x->moved = drive_execute(d, &s.order, x->data);
-    piongseut_complete_answer c = piongseut_complete(
-        &n->record, d->registers, sizeof d->registers, x->sense, sizeof x->sense);
-    x->number = c.number;
-    x->status = fits ? c.status : PIONGSEUT_NONE;
-}
-
-/* On a packet drive A1h is the drive's own command BLANK, and so are all others but
-   INQUIRY and 85h: they are the drive's to answer, and this one knows none of them. */
-static int drive_answers(const node *n, exchange *x)
-{
-    static const uint8_t unknown[PIONGSEUT_REFUSAL_SENSE_SIZE] = {0x72, 0x05, 0x20};
-    if (!n->drive.packet || x->command[0] == INQUIRY || x->command[0] == PASS_THROUGH_16)
-        return 0;
-    x->status = PIONGSEUT_CHECK_CONDITION;
-    memcpy(x->sense, unknown, sizeof unknown);
-    return 1;
 }
 
 /* ---- what the host sees ---- */
@@ -225,13 +116,7 @@ static int answer_sg_io(node *n, sg_io_hdr_t *h)
         return -1;
     }
     x.declared = x.direction == PIONGSEUT_DIRECTION_NONE ? 0 : h->dxfer_len;
-    if (!drive_answers(n, &x)) {
-        if (x.command[0] == INQUIRY)
-            inquire(n, &x);
-        else
-            pass_through(n, &x);
-        log_command(&x);
-    }
+    bay_carry(&n->bay, &x, program_invocation_short_name);
     report(h, &x);
     return 0;
 }

@@ -1,0 +1,116 @@
+/* A command's way through the board: INQUIRY to the one entry, all else to the other, an
+   order that is taken to the drive and then to completion; and the log of it. */
+#include "bridge.h"
+
+#include <stdio.h>
+#include <stdlib.h>
+#include <string.h>
+
+static const uint8_t texts[] = "PIONGSEU" "SATA BRIDGE     " "0001";
+
+static void die(const char *why)
+{
+    fprintf(stderr, "piongseut bridge: %s\n", why);
+    exit(120);
+}
+
+void bay_fill(bay *b, const char *description)
+{
+    char complaint[300];
+    const char *folder = getenv("PIONGSEUT_DATA");
+    if (!folder)
+        die("PIONGSEUT_DATA is not set");
+    b->record = piongseut_record_empty();
+    if (drive_describe(&b->drive, description, folder, complaint, sizeof complaint) < 0)
+        die(complaint);
+}
+
+/* ---- the log ---- */
+
+static void put_hex(FILE *out, const uint8_t *bytes, size_t size)
+{
+    for (size_t i = 0; i < size; i++)
+        fprintf(out, "%02x", bytes[i]);
+}
+
+static void log_command(const exchange *x, const char *who)
+{
+    const char *name = getenv("PIONGSEUT_LOG");
+    FILE *out = name ? fopen(name, "a") : NULL;
+    if (!out) {
+        if (name)
+            die("cannot write the file that PIONGSEUT_LOG names");
+        return;
+    }
+    fprintf(out, "%s ", who);
+    put_hex(out, x->command, x->command_size);
+    fprintf(out, " number=%u status=%02x moved=%zu sense=", x->number, x->status, x->moved);
+    put_hex(out, x->sense, sense_size(x));
+    fputc('\n', out);
+    fclose(out);
+}
+
+/* ---- through the board ---- */
+
+static void inquire(bay *b, exchange *x)
+{
+    uint8_t room[PIONGSEUT_PAGE89_SIZE], reply[PIONGSEUT_PAGE89_SIZE];
+    const drive *d = &b->drive;
+    size_t replied = drive_inquiry(d, x->command, x->command_size, reply, sizeof reply);
+    piongseut_inquiry_answer a = piongseut_inquiry(
+        x->command, x->command_size, d->identify, d->identify_size, d->signature,
+        sizeof d->signature, texts, sizeof texts - 1, reply, replied, room, sizeof room,
+        x->sense, sizeof x->sense);
+    x->number = a.number;
+    x->status = a.status;
+    x->moved = a.count < x->declared ? a.count : x->declared;
+    if (x->moved > sizeof room)
+        die("the board shows more bytes than it was lent");
+    if (x->moved)
+        memcpy(x->data, a.shown == PIONGSEUT_SHOWN_ROOM ? room : reply, x->moved);
+}
+
+static void pass_through(bay *b, exchange *x)
+{
+    drive *d = &b->drive;
+    piongseut_submit_answer s = piongseut_submit(
+        &b->record, x->command, x->command_size, d->registers, sizeof d->registers,
+        (uint32_t)x->declared, x->sense, sizeof x->sense);
+    x->number = s.number;
+    x->status = s.status;
+    if (s.number != PIONGSEUT_ACCEPTED || s.status != PIONGSEUT_NONE)
+        return;
+    if (s.order.length > x->declared)
+        die("the board took an order longer than the host's buffer");
+    /* a host that lends its buffer for the other direction gets no data and no status */
+    int fits = s.order.direction == PIONGSEUT_DIRECTION_NONE || s.order.direction == x->direction;
+    if (fits)
+        x->moved = drive_execute(d, &s.order, x->data);
+    piongseut_complete_answer c = piongseut_complete(
+        &b->record, d->registers, sizeof d->registers, x->sense, sizeof x->sense);
+    x->number = c.number;
+    x->status = fits ? c.status : PIONGSEUT_NONE;
+}
+
+/* On a packet drive A1h is the drive's own command BLANK, and so are all others but
+   INQUIRY and 85h: they are the drive's to answer, and this one knows none of them. */
+static int drive_answers(const bay *b, exchange *x)
+{
+    static const uint8_t unknown[PIONGSEUT_REFUSAL_SENSE_SIZE] = {0x72, 0x05, 0x20};
+    if (!b->drive.packet || x->command[0] == INQUIRY || x->command[0] == PASS_THROUGH_16)
+        return 0;
+    x->status = PIONGSEUT_CHECK_CONDITION;
+    memcpy(x->sense, unknown, sizeof unknown);
+    return 1;
+}
+
+void bay_carry(bay *b, exchange *x, const char *who)
+{
+    if (drive_answers(b, x))
+        return;
+    if (x->command[0] == INQUIRY)
+        inquire(b, x);
+    else
+        pass_through(b, x);
+    log_command(x, who);
+}
