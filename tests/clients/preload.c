@@ -6,7 +6,6 @@
    PIONGSEUT_LOG   a file that gets one line for each command that reached the board */
 #define _GNU_SOURCE
 #include <errno.h>
-#include <scsi/sg.h>
 #include <stdarg.h>
 #include <stdio.h>
 #include <stdlib.h>
@@ -17,8 +16,8 @@
 #include <unistd.h>
 
 #include "bridge.h"
+#include "sg.h"
 
-enum { DID_ERROR = 7, DRIVER_SENSE = 8 }; /* the kernel's numbers, in no public header */
 enum { NODES = 16 };
 
 static const char heading[] = "piongseut drive\n";
@@ -65,59 +64,13 @@ static node *node_of(int fd)
     return strncmp(text, heading, strlen(heading)) ? NULL : new_node(&s, text);
 }
 
-/* ---- what the host sees ---- */
-
-static void report(sg_io_hdr_t *h, const exchange *x)
-{
-    size_t sense = sense_size(x);
-    h->status = x->status;
-    h->host_status = 0;
-    h->driver_status = 0;
-    h->sb_len_wr = 0;
-    if (x->status == PIONGSEUT_NONE) { /* no status came back: the adapter reports an error */
-        h->status = PIONGSEUT_GOOD;
-        h->host_status = DID_ERROR;
-    }
-    if (h->status == PIONGSEUT_CHECK_CONDITION) {
-        h->driver_status = DRIVER_SENSE;
-        if (h->sbp) {
-            h->sb_len_wr = (unsigned char)(sense < h->mx_sb_len ? sense : h->mx_sb_len);
-            memcpy(h->sbp, x->sense, h->sb_len_wr);
-        }
-    }
-    h->masked_status = (h->status >> 1) & 0x1F;
-    h->msg_status = 0;
-    h->resid = (int)(x->declared - x->moved);
-    h->duration = 1;
-    h->info = h->status || h->host_status || h->driver_status ? SG_INFO_CHECK : SG_INFO_OK;
-}
-
-static int host_direction(const sg_io_hdr_t *h)
-{
-    switch (h->dxfer_direction) {
-    case SG_DXFER_FROM_DEV:
-    case SG_DXFER_TO_FROM_DEV:
-        return PIONGSEUT_DIRECTION_FROM_DRIVE;
-    case SG_DXFER_TO_DEV:
-        return PIONGSEUT_DIRECTION_TO_DRIVE;
-    default:
-        return PIONGSEUT_DIRECTION_NONE;
-    }
-}
-
 static int answer_sg_io(node *n, sg_io_hdr_t *h)
 {
-    exchange x = {.command = h->cmdp, .command_size = h->cmd_len, .data = h->dxferp,
-                  .direction = host_direction(h), .status = PIONGSEUT_NONE};
-    /* a header of version 4 has 'Q' here; kernels that know only version 3 refuse it so */
-    if (h->interface_id != 'S' || h->iovec_count || h->dxfer_len > MOST || !h->cmd_len ||
-        (h->dxfer_len && !h->dxferp)) {
-        errno = EINVAL;
+    exchange x;
+    if (sg_read(h, &x) < 0)
         return -1;
-    }
-    x.declared = x.direction == PIONGSEUT_DIRECTION_NONE ? 0 : h->dxfer_len;
     bay_carry(&n->bay, &x, program_invocation_short_name);
-    report(h, &x);
+    sg_report(h, &x);
     return 0;
 }
 
@@ -135,7 +88,7 @@ int ioctl(int fd, unsigned long request, ...)
     if (request == SG_IO)
         return answer_sg_io(n, argument);
     if (request == SG_GET_VERSION_NUM) {
-        *(int *)argument = 30536; /* 3.5.36, the sg driver of the years of version 3 */
+        *(int *)argument = SG_VERSION;
         return 0;
     }
     errno = ENOTTY; /* no client of these tests needs another request */

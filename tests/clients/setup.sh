@@ -30,7 +30,7 @@ prepare() {
     case $build in *[[:space:]:,]*) kit_problem="LD_PRELOAD cannot name a file in '$build'"; return 1 ;; esac
     kit_prepare clients && kit_does "cannot write to $build" mkdir -p "$build" &&
         kit_does 'the preload library cannot be built' "$kit_cc" -std=c11 -O2 -g -Wall -Wextra -Werror -fPIC -shared \
-            -I "$kit_include" -o "$preload" "$clients"/{preload,bridge,drive}.c "$kit_archive" -Wl,-z,defs -Wl,--exclude-libs,ALL ||
+            -I "$kit_include" -o "$preload" "$clients"/{preload,sg,bridge,drive}.c "$kit_archive" -Wl,-z,defs -Wl,--exclude-libs,ALL ||
         return
     export PIONGSEUT_DATA=$project/data/identify LC_ALL=C
 }
