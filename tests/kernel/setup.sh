@@ -20,7 +20,7 @@ prepare() {
         kit_does "the board's process cannot be built" "$kit_cc" "${flags[@]}" -static -o "$build/board" \
             "$kernel/board.c" "$clients"/{bridge,drive}.c "$kit_archive" &&
         kit_does 'the host adapter cannot be built' gcc "${flags[@]}" -o "$build/adapter" \
-            "$kernel"/{adapter,vhost,blocks}.c
+            "$kernel"/{adapter,vhost,host,blocks}.c
 }
 
 # The libraries of a program for x86-64, by the loader that is unpacked with them.

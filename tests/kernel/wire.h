@@ -1,4 +1,4 @@
-/* What goes over the socket between the host adapter (adapter.c) and the board's process (board.c):
+/* What goes over the socket between the host (host.c) and the board's process (board.c):
    a command, with its data where they go to the drive, and the answer to it, with its data
    where they come from the drive. The two may be programs for two processors, so every number
    has its size; both processors put the low byte first. */
