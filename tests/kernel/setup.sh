@@ -1,7 +1,8 @@
 # shellcheck shell=bash disable=SC2034
 # Sourced by run and shell: a machine in QEMU with Debian's kernel, before a shelf of bays that the board's process serves.
 #
-# QEMU and the host adapter beside it are programs for this machine; the board's process is one for x86-64, and so is what is inside.
+# There are two ways from QEMU to the bays: `adapter`, a host adapter beside it, and `generic`, its own disks by a preload library. All
+# three are for this machine; the board's process is a program for x86-64, and so is what is inside.
 project=$(cd "$(dirname "${BASH_SOURCE[0]}")/../.." && pwd)
 # shellcheck source=../../tools/kit.sh
 . "$project/tools/kit.sh"
@@ -10,17 +11,22 @@ build=$project/target/kernel
 amd64=$project/target/packages/amd64
 image=$project/target/packages/kernel
 modules=(virtio_pci virtio_scsi virtio_blk crct10dif_generic crc64_rocksoft_generic sd_mod sg crc32c_generic ext4)
+sectors=2048 # at once, as many as fit into MOST bytes of data
 adapter=
+preload=()
 limit=0
 
 # Makes ready what does not depend on the shelf, or says in kit_problem what is missing.
 prepare() {
     local clients=$project/tests/clients flags=(-std=c11 -O2 -g -Wall -Wextra -Werror -I "$kit_include")
+    case $build in *[[:space:]:,]*) kit_problem="LD_PRELOAD cannot name a file in '$build'"; return 1 ;; esac
     kit_prepare kernel && kit_does "cannot write to $build" mkdir -p "$build" &&
         kit_does "the board's process cannot be built" "$kit_cc" "${flags[@]}" -static -o "$build/board" \
             "$kernel/board.c" "$clients"/{bridge,drive}.c "$kit_archive" &&
         kit_does 'the host adapter cannot be built' gcc "${flags[@]}" -o "$build/adapter" \
-            "$kernel"/{adapter,vhost,host,blocks}.c
+            "$kernel"/{adapter,vhost,host,blocks}.c &&
+        kit_does "QEMU's preload library cannot be built" gcc "${flags[@]}" -fPIC -shared -fvisibility=hidden -Wl,-z,defs \
+            -o "$build/generic.so" "$kernel"/{generic,host,blocks}.c "$clients/sg.c"
 }
 
 # The libraries of a program for x86-64, by the loader that is unpacked with them.
@@ -67,14 +73,35 @@ start_adapter() {
     [ -S "$1/socket" ] || { kit_problem="the host adapter does not listen: $(cat "$1/adapter.err")"; return 1; }
 }
 
-# boot FOLDER WORD..: the machine, from power on to power off, once the adapter is there. QEMU gets the words too.
-boot() {
+# machine FOLDER WORD..: from power on to power off. The words tell QEMU of the disks and of what else it is to have.
+machine() {
     local folder=$1
     shift
-    timeout --foreground "$limit" qemu-system-x86_64 -accel tcg -nodefaults -display none -no-reboot \
-        -m 256 -object memory-backend-memfd,id=memory,size=256M,share=on -machine memory-backend=memory \
-        -kernel "$image"/boot/vmlinuz-* -initrd "$folder/root.cpio" -append 'console=ttyS0 panic=1 quiet' \
-        -chardev "socket,id=adapter,path=$folder/socket" -device vhost-user-scsi-pci,chardev=adapter,max_sectors=2048 "$@"
+    timeout --foreground "$limit" "${preload[@]}" qemu-system-x86_64 -accel tcg -nodefaults -display none -no-reboot \
+        -pidfile "$folder/pid" -m 256 -object memory-backend-memfd,id=memory,size=256M,share=on -machine memory-backend=memory \
+        -kernel "$image"/boot/vmlinuz-* -initrd "$folder/root.cpio" -append 'console=ttyS0 panic=1 quiet' "$@"
+}
+
+# boot_adapter FOLDER WORD..: the machine with the adapter's disks, once the adapter is there.
+boot_adapter() {
+    machine "$@" -chardev "socket,id=adapter,path=$1/socket" -device "vhost-user-scsi-pci,chardev=adapter,max_sectors=$sectors"
+}
+
+# boot_generic FOLDER WORD..: the machine with every bay a disk of QEMU's own.
+boot_generic() {
+    local bay disks=(-device "virtio-scsi-pci,id=bus,max_sectors=$sectors") preload=(env "LD_PRELOAD=$build/generic.so"
+        "PIONGSEUT_SHELF=$1/shelf" "PIONGSEUT_HOST_LOG=$1/host.log" "PIONGSEUT_BOARD=exec ${kit_run[*]@Q} ${build@Q}/board ${1@Q}/shelf"
+        "PIONGSEUT_DATA=$1/shelf" "PIONGSEUT_LOG=$1/board.log")
+    while read -r bay _; do
+        disks+=(-drive "file=$1/shelf/$bay.disk,if=none,id=bay$bay,format=raw"
+            -device "scsi-generic,drive=bay$bay,bus=bus.0,scsi-id=$((10#$bay))")
+    done <"$1/shelf/bays"
+    machine "$@" "${disks[@]}"
+}
+
+# end_machine FOLDER: ends QEMU where it still runs.
+end_machine() {
+    [ ! -s "$1/pid" ] || kill "$(cat "$1/pid")" 2>/dev/null
 }
 
 # The adapter ends when QEMU has, and the board with it; where QEMU never was, it is ended.
