@@ -153,6 +153,13 @@ static void read_request(const ring *r, uint16_t first, request *q)
     die("a request without an end");
 }
 
+static void ring_bell(const ring *r)
+{
+    const uint64_t once = 1;
+    if (r->call >= 0 && write(r->call, &once, sizeof once) < 0)
+        die("a bell cannot be rung");
+}
+
 static void serve_ring(unsigned number, void (*answer)(unsigned, request *))
 {
     static request q;
@@ -167,9 +174,7 @@ static void serve_ring(unsigned number, void (*answer)(unsigned, request *))
         r->used->ring[at % r->size].id = first;
         r->used->ring[at % r->size].size = (uint32_t)pieces_size(q.room, q.room_used);
         __atomic_store_n(&r->used->index, (uint16_t)(at + 1), __ATOMIC_RELEASE);
-        rung = 1;
-        if (r->call >= 0 && write(r->call, &rung, sizeof rung) < 0)
-            die("a bell cannot be rung");
+        ring_bell(r);
     }
 }
 
@@ -224,6 +229,7 @@ static void obey_of_ring(int qemu, ring *r, message *m, const int *files)
         return;
     case SET_VRING_CALL:
         set_bell(&r->call, m, files);
+        ring_bell(r); /* for what was answered before this bell came, by one that nobody hears */
         return;
     default: /* GET_VRING_BASE, which also stops the ring */
         r->used = NULL;
