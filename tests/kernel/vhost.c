@@ -7,6 +7,7 @@
 
 #include <errno.h>
 #include <poll.h>
+#include <sched.h>
 #include <stdio.h>
 #include <stdlib.h>
 #include <string.h>
@@ -160,6 +161,14 @@ static void ring_bell(const ring *r)
         die("a bell cannot be rung");
 }
 
+/* The bell of a request orders what the machine stored before it. A request that is found before its
+   bell has no such order where the emulator makes none between the machine's stores: its index may
+   be seen before its entry. The entry is there well before the host comes back from a call. */
+static void settle(void)
+{
+    sched_yield();
+}
+
 static void serve_ring(unsigned number, void (*answer)(unsigned, request *))
 {
     static request q;
@@ -168,6 +177,7 @@ static void serve_ring(unsigned number, void (*answer)(unsigned, request *))
     if (read(r->kick, &rung, sizeof rung) < 0 && errno != EAGAIN)
         die("a bell cannot be heard");
     while (r->used && r->next != __atomic_load_n(&r->available->index, __ATOMIC_ACQUIRE)) {
+        settle();
         uint16_t first = r->available->ring[r->next++ % r->size], at = r->used->index;
         read_request(r, first, &q);
         answer(number, &q);
