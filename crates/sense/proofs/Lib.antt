@@ -1,3 +1,4 @@
 -- The laws of refusals and sense data, for the crates above.
 pub mod Table
 pub mod Sense
+pub mod Carried

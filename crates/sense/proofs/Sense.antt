@@ -6,17 +6,16 @@ use Prim.Native.Nat.{ℕ, _≤_}
 use lib.ListN.{length}
 use Rattle.sense.specs.Refusal.{rowOf}
 use Rattle.sense.specs.Helpers.{Roomy}
-use Rattle.sense.specs.Sense.{senseData, nothing, registers}
+use Rattle.sense.specs.Sense.{isFixed, fixedSense, descriptorSense, senseData, nothing}
 
--- "exactly 8 sense bytes"
-pub length-code : (key asc ascq : ℕ) → length (senseData key asc ascq nothing) ≡ 8
-unfolding senseData
-length-code key asc ascq = refl
-
--- "Sense is 22 bytes"
-pub length-report : (key asc ascq : ℕ) (extend : Bool) (lent : List ℕ) → length (senseData key asc ascq (registers extend lent)) ≡ 22
-unfolding senseData
-length-report key asc ascq extend lent = refl
+-- "8 or 18 sense bytes by form"
+pub length-code : (form key asc ascq : ℕ) → length (senseData form key asc ascq nothing) ≡ cond (isFixed form) 18 8
+unfolding senseData fixedSense descriptorSense
+length-code form key asc ascq = by (isFixed form)
+  where
+    by : (t : Bool) → length (cond t (fixedSense key asc ascq nothing) (descriptorSense key asc ascq nothing)) ≡ cond t 18 8
+    by true = refl
+    by false = refl
 
 -- A refusal that writes has room for it, where sizes are looked at first: too little room is 1, which writes nothing.
 pub roomy-unless : (wrong : Bool) (rest : ℕ) {number sense : ℕ} → (wrong ≡ false → 22 ≤ sense) → number ≡ cond wrong 1 rest → Roomy number sense

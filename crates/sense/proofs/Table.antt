@@ -64,13 +64,13 @@ module _ (n : ℕ) where
   pub checks : (rowOf n .key ≡ 0 → ⊥) → rowOf n .status ≡ checkCondition
   checks h = rw (status-is n, ne-eqb (rowOf n .key) 0 h)
 
-  pub writes : (room : List ℕ) → (rowOf n .key ≡ 0 → ⊥) → refusedSense n room ≡ written room 0 (senseData (rowOf n .key) (rowOf n .asc) (rowOf n .ascq) nothing)
+  pub writes : (form : ℕ) (room : List ℕ) → (rowOf n .key ≡ 0 → ⊥) → refusedSense form n room ≡ written room 0 (senseData form (rowOf n .key) (rowOf n .asc) (rowOf n .ascq) nothing)
   unfolding refusedSense
-  writes room h = rw (ne-eqb (rowOf n .key) 0 h)
+  writes form room h = rw (ne-eqb (rowOf n .key) 0 h)
 
-  pub writes-nothing : (room : List ℕ) → rowOf n .key ≡ 0 → refusedSense n room ≡ room
+  pub writes-nothing : (form : ℕ) (room : List ℕ) → rowOf n .key ≡ 0 → refusedSense form n room ≡ room
   unfolding refusedSense
-  writes-nothing room h = rw (eq-eqb (rowOf n .key) 0 h)
+  writes-nothing form room h = rw (eq-eqb (rowOf n .key) 0 h)
 
   pub busy-or-none : rowOf n .key ≡ 0 → rowOf n .status ≡ cond (eqb n 10) busy noStatus
   busy-or-none h = rw (status-is n, eq-eqb (rowOf n .key) 0 h)

@@ -86,8 +86,9 @@ threeBytes r = r .key ∷ r .asc ∷ r .ascq ∷ []
 abbrev pub codes : List (List ℕ)
 codes = map threeBytes table
 
--- A row with a key writes its sense data at the front of the sense room; a row without one writes nothing.
-unfoldable pub refusedSense : ℕ → List ℕ → List ℕ
-refusedSense number room =
+-- A row with a key writes its sense data, in the form that is asked for, at the front of the sense room; a row without one writes
+-- nothing.
+unfoldable pub refusedSense : ℕ → ℕ → List ℕ → List ℕ
+refusedSense form number room =
     cond (eqb (rowOf number .key) 0x00) room
-    (written room 0 (senseData (rowOf number .key) (rowOf number .asc) (rowOf number .ascq) nothing))
+    (written room 0 (senseData form (rowOf number .key) (rowOf number .asc) (rowOf number .ascq) nothing))

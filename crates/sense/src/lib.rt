@@ -1,12 +1,15 @@
-// Sense: the table of refusals, and the sense data that a refusal or an ended order leaves. The rules stand in specs/:
-// Refusal (the table, and what a row writes) and Sense (the bytes' form).
+// Sense: the table of refusals, and the sense data that a refusal or an ended order leaves, in the form that the caller asks for.
+// The rules stand in specs/: Refusal (the table, and what a row writes), Sense (the bytes of both forms) and Carried (what is read out
+// of either).
+mod fixed;
+
 ghost use mathlib.Core.Path.{_≡_};
 ghost use mathlib.Core.Bool.{Bool, true, false};
 ghost use mathlib.Core.List.{List};
 ghost use Prim.Native.Nat.{_<_, _≤_};
 ghost use lib.ListN.{length};
 ghost use Rattle.room.specs.Room.{Wrote};
-ghost use Rattle.sense.specs.Sense.{senseData, nothing, registers as told, upper as Sense·upper};
+ghost use Rattle.sense.specs.Sense.{isFixed, descriptorSense, senseData, nothing, registers as told, upper as Sense·upper};
 ghost use Rattle.sense.specs.Refusal.{rowOf, threeBytes, refusedSense};
 ghost use Rattle.sense.specs.Helpers.{Roomy};
 
@@ -17,6 +20,13 @@ pub const CHECK_CONDITION: u8 = 0x02;
 pub const BUSY: u8 = 0x08;
 // No status: a number that SCSI gives to none.
 pub const NONE: u8 = 0xFF;
+
+// The forms of sense data that a caller may ask for; every other number states none.
+pub const UNSTATED: u8 = 0;
+
+pub const FIXED: u8 = 1;
+
+pub const DESCRIPTOR: u8 = 2;
 
 // Key, ASC and ASCQ of each refusal, by its number; key 0 where a refusal has none, as all have from 15 on, so that the numbers
 // above 16 need no bytes here.
@@ -40,13 +50,32 @@ const TABLE: [[u8; 3]; 17] = [
     [0x00, 0x00, 0x00],
 ];
 
-// The eight bytes of sense data that tell key, ASC and ASCQ alone.
-fn put_code(sense: &mut [u8], key: u8, asc: u8, ascq: u8)
+// Whether a form is the fixed one.
+fn is_fixed(form: u8) -> bool
+    ensures { λ r. ⌜ r ≡ isFixed form ⌝ }
+{
+    form == FIXED
+}
+
+// The eight bytes that tell key, ASC and ASCQ alone in the descriptor form.
+fn put_descriptor_code(sense: &mut [u8], key: u8, asc: u8, ascq: u8)
     requires { ⌜ 8 ≤ length (now sense) ⌝ }
-    ensures { λ _. ⌜ Wrote (now (sense .entry)) 0 (senseData key asc ascq nothing) (now (sense .exit)) ⌝ }
+    ensures { λ _. ⌜ Wrote (now (sense .entry)) 0 (descriptorSense key asc ascq nothing) (now (sense .exit)) ⌝ }
 {
     let bytes = [0x72u8, key, asc, ascq, 0x00u8, 0x00u8, 0x00u8, 0x00u8];
     room::copy(sense, 0, &bytes, 8);
+}
+
+// The sense data that tell key, ASC and ASCQ alone.
+fn put_code(sense: &mut [u8], form: u8, key: u8, asc: u8, ascq: u8)
+    requires { ⌜ 22 ≤ length (now sense) ⌝ }
+    ensures { λ _. ⌜ Wrote (now (sense .entry)) 0 (senseData form key asc ascq nothing) (now (sense .exit)) ⌝ }
+{
+    if is_fixed(form) {
+        fixed::code(sense, key, asc, ascq);
+        return;
+    }
+    put_descriptor_code(sense, key, asc, ascq);
 }
 
 // Key, ASC and ASCQ of a refusal, and zeros for a number past the array.
@@ -60,14 +89,14 @@ fn code(number: u8) -> [u8; 3]
 }
 
 // What a refusal answers: it writes the sense bytes of its row, or nothing, and gives the row's status.
-pub fn refuse(sense: &mut [u8], number: u8) -> u8
+pub fn refuse(sense: &mut [u8], form: u8, number: u8) -> u8
     requires { ⌜ Roomy number (length (now sense)) ⌝ }
     ensures status { λ r. ⌜ r ≡ rowOf number .status ⌝ }
-    ensures sense { λ _. ⌜ now (sense .exit) ≡ refusedSense number (now (sense .entry)) ⌝ }
+    ensures sense { λ _. ⌜ now (sense .exit) ≡ refusedSense form number (now (sense .entry)) ⌝ }
 {
     let row = code(number);
     if row[0] != 0 {
-        put_code(sense, row[0], row[1], row[2]);
+        put_code(sense, form, row[0], row[1], row[2]);
         return CHECK_CONDITION;
     }
     if number == 10 {
@@ -86,10 +115,10 @@ fn upper(extend: bool, byte: u8) -> u8
     0
 }
 
-// Writes the sense data that tell the drive's registers beside key, ASC and ASCQ.
-pub fn report(sense: &mut [u8], key: u8, asc: u8, ascq: u8, extend: bool, registers: &[u8])
+// Tells the drive's registers beside key, ASC and ASCQ in the descriptor form.
+fn report_descriptor(sense: &mut [u8], key: u8, asc: u8, ascq: u8, extend: bool, registers: &[u8])
     requires { ⌜ (length (now registers) ≡ 11) × (22 ≤ length (now sense)) ⌝ }
-    ensures { λ _. ⌜ Wrote (now (sense .entry)) 0 (senseData key asc ascq (told extend (now (registers .entry)))) (now (sense .exit)) ⌝ }
+    ensures { λ _. ⌜ Wrote (now (sense .entry)) 0 (descriptorSense key asc ascq (told extend (now (registers .entry)))) (now (sense .exit)) ⌝ }
 {
     let bytes = [
         0x72u8,
@@ -117,4 +146,24 @@ pub fn report(sense: &mut [u8], key: u8, asc: u8, ascq: u8, extend: bool, regist
         registers[10],
     ];
     room::copy(sense, 0, &bytes, 22);
+}
+
+// Writes the sense data that tell the drive's registers beside key, ASC and ASCQ.
+pub fn report(
+    sense: &mut [u8],
+    form: u8,
+    key: u8,
+    asc: u8,
+    ascq: u8,
+    extend: bool,
+    registers: &[u8],
+)
+    requires { ⌜ (length (now registers) ≡ 11) × (22 ≤ length (now sense)) ⌝ }
+    ensures { λ _. ⌜ Wrote (now (sense .entry)) 0 (senseData form key asc ascq (told extend (now (registers .entry)))) (now (sense .exit)) ⌝ }
+{
+    if is_fixed(form) {
+        fixed::report(sense, key, asc, ascq, extend, registers);
+        return;
+    }
+    report_descriptor(sense, key, asc, ascq, extend, registers);
 }

@@ -42,19 +42,19 @@ returns c =
     let e = w .before .code .ensures in
     let key : getD (w .before .code .result) 0 0 ≡ rowOf number .key = ap (λ (l : List ℕ). getD l 0 0) e in
     let some : rowOf number .key ≡ 0 → ⊥ = λ z. w .if1 .taken (key ∙ z) in
-    (sym (checks number some), rw e at (c .before .before .put-code .ensures .leaves) ∙ sym (writes number _ some))
+    (sym (checks number some), rw e at (c .before .before .put-code .ensures .leaves) ∙ sym (writes number _ _ some))
 
 returns-2 : tie.Need-returns-2
 returns-2 c =
     let number = c .before .before .before .before .args .number in
     let none : rowOf number .key ≡ 0 = ap (λ (l : List ℕ). getD l 0 0) (sym (c .before .before .code .ensures)) ∙ c .before .if1 .left in
-    (rw (busy-or-none number none, eq-eqb number 10 (c .if2 .taken)), sym (writes-nothing number _ none))
+    (rw (busy-or-none number none, eq-eqb number 10 (c .if2 .taken)), sym (writes-nothing number _ _ none))
 
 returns-3 : tie.Need-returns-3
 returns-3 c =
     let number = c .before .before .before .before .args .number in
     let none : rowOf number .key ≡ 0 = ap (λ (l : List ℕ). getD l 0 0) (sym (c .before .before .code .ensures)) ∙ c .before .if1 .left in
-    (rw (busy-or-none number none, ne-eqb number 10 (c .if2 .left)), sym (writes-nothing number _ none))
+    (rw (busy-or-none number none, ne-eqb number 10 (c .if2 .left)), sym (writes-nothing number _ _ none))
 
 pub refuse-spec : {M : Type 1} → statement M
 refuse-spec =
