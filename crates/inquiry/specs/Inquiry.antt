@@ -20,10 +20,10 @@ pub record Outcome : Type 0 where
 abbrev pub outcome : Answer → List ℕ → List ℕ → Outcome
 outcome answer room sense = record { answer = answer; room = room; sense = sense }
 
--- A refusal shows an empty part of the room, has its row's status and sense bytes, and changes nothing else.
-abbrev pub refused : ℕ → List ℕ → List ℕ → Outcome
-refused number room sense =
-    outcome (record { number = number; status = rowOf number .status; shown = 1; count = 0 }) room (refusedSense number sense)
+-- A refusal shows an empty part of the room, has its row's status and sense bytes, in the form asked for, and changes nothing else.
+abbrev pub refused : ℕ → ℕ → List ℕ → List ℕ → Outcome
+refused form number room sense =
+    outcome (record { number = number; status = rowOf number .status; shown = 1; count = 0 }) room (refusedSense form number sense)
 
 -- A packet drive's own reply is shown, as much of it as the allocation length allows; the room stays as it was.
 abbrev pub passed : Request → List ℕ → List ℕ → Outcome
@@ -37,11 +37,11 @@ served q room sense =
     (take (toWrite q) (page q) ++ drop (toWrite q) room)
     sense
 
-unfoldable pub inquiry : Request → List ℕ → List ℕ → Outcome
-inquiry q room sense =
+unfoldable pub inquiry : Request → ℕ → List ℕ → List ℕ → Outcome
+inquiry q form room sense =
     cond (eqb (refusalOf q (length room) (length sense)) 0)
     (cond (passesThrough (isPacket q) (q .command)) (passed q room sense) (served q room sense))
-    (refused (refusalOf q (length room) (length sense)) room sense)
+    (refused form (refusalOf q (length room) (length sense)) room sense)
 
 -- The part that an answer shows: 0 of the drive's reply, any other number of the room.
 abbrev pub part : List ℕ → List ℕ → ℕ → ℕ → List ℕ

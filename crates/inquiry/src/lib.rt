@@ -57,12 +57,12 @@ fn put_page(
 }
 
 // A refusal: an empty part of the room, and the sense bytes of its row.
-fn refuse(sense: &mut [u8], number: u8) -> Answer
+fn refuse(sense: &mut [u8], form: u8, number: u8) -> Answer
     requires { ⌜ Roomy number (length (now sense)) ⌝ }
     ensures answer { λ r. ⌜ r ≡ record { number = number; status = rowOf number .status; shown = 1; count = 0 } ⌝ }
-    ensures sense { λ _. ⌜ now (sense .exit) ≡ refusedSense number (now (sense .entry)) ⌝ }
+    ensures sense { λ _. ⌜ now (sense .exit) ≡ refusedSense form number (now (sense .entry)) ⌝ }
 {
-    let status = sense::refuse(sense, number);
+    let status = sense::refuse(sense, form, number);
     Answer {
         number,
         status,
@@ -78,14 +78,15 @@ pub fn inquiry(
     signature: &[u8],
     texts: &[u8],
     reply: &[u8],
+    form: u8,
     room: &mut [u8],
     sense: &mut [u8],
 ) -> Answer
-    ensures { λ r. ⌜ outcome r (now (room .exit)) (now (sense .exit)) ≡ Inquiry·inquiry (request (now (command .entry)) (now (block .entry)) (now (signature .entry)) (now (texts .entry)) (now (reply .entry))) (now (room .entry)) (now (sense .entry)) ⌝ }
+    ensures { λ r. ⌜ outcome r (now (room .exit)) (now (sense .exit)) ≡ Inquiry·inquiry (request (now (command .entry)) (now (block .entry)) (now (signature .entry)) (now (texts .entry)) (now (reply .entry))) form (now (room .entry)) (now (sense .entry)) ⌝ }
 {
     let number = inquiry_checks::fault(command, block, signature, texts, reply, sense.len());
     if number != 0 {
-        return refuse(sense, number);
+        return refuse(sense, form, number);
     }
     let packet = packet::packet_drive(signature);
     let allocation = inquiry_fields::allocation(command);
@@ -100,7 +101,7 @@ pub fn inquiry(
     let size = inquiry_checks::size(packet, command, block, reply);
     let n = rules::lesser(size, allocation);
     if room.len() < n {
-        return refuse(sense, 8);
+        return refuse(sense, form, 8);
     }
     put_page(&mut room[..n], command, block, signature, texts, reply);
     Answer {

@@ -25,7 +25,7 @@ settled false z = z
 pub same-number : (m n : ℕ) → Holds (not (not (eqb m n))) → m ≡ n
 same-number m n z = eqb→eq m n (settled (eqb m n) z)
 
-module _ (p : Pending) (command registers : List ℕ) (declared : ℕ) (sense : List ℕ) where
+module _ (p : Pending) (command registers : List ℕ) (declared form : ℕ) (sense : List ℕ) where
   abbrev refusal : ℕ
   refusal = Submit.refusalOf p command registers declared (length sense)
 
@@ -36,19 +36,19 @@ module _ (p : Pending) (command registers : List ℕ) (declared : ℕ) (sense : 
       true≢false (rw (n, f) at (silent (Check.checksOf (not (nothingPending p)) command (length registers) declared (length sense)) refl e .1 .1 .1 .1 .1 .1 .0))
 
   unmoved-by : (b told : Bool) → eqb refusal 0 ≡ b → eqb (protocol command) 15 ≡ told
-      → let o = cond b (cond told (Submit.reported p registers sense) (Submit.taken (orderOf command declared) sense)) (Submit.refused p refusal sense) in
+      → let o = cond b (cond told (Submit.reported p registers form sense) (Submit.taken (orderOf command declared) sense)) (Submit.refused p form refusal sense) in
       o .submitted .next .state ≡ p .state → o .submitted .next ≡ p
   unmoved-by false told e f h = refl
   unmoved-by true true e f h = refl
   unmoved-by true false e f h = absurd (none-pending (eqb-true refusal 0 e) f (rw (← h)))
 
-  pub submit-unmoved : {r : Submitted} {s : List ℕ} → Submit.outcome r s ≡ Submit.submit p command registers declared sense → r .next .state ≡ p .state → r .next ≡ p
+  pub submit-unmoved : {r : Submitted} {s : List ℕ} → Submit.outcome r s ≡ Submit.submit p command registers declared form sense → r .next .state ≡ p .state → r .next ≡ p
   unfolding Submit.submit
   submit-unmoved e h =
       let n = ap (λ (o : Submit.Outcome). o .submitted .next) e in
       n ∙ unmoved-by (eqb refusal 0) (eqb (protocol command) 15) refl refl (ap (λ (q : Pending). q .state) (sym n) ∙ h)
 
-module _ (p : Pending) (registers sense : List ℕ) where
+module _ (p : Pending) (registers : List ℕ) (form : ℕ) (sense : List ℕ) where
   abbrev ending : ℕ
   ending = Complete.refusalOf p registers (length sense)
 
@@ -57,11 +57,11 @@ module _ (p : Pending) (registers sense : List ℕ) where
   unfolding Complete.refusalOf
   some-pending e n = true≢false (sym n ∙ silent (Complete.checksOf p registers (length sense)) refl e .1 .0)
 
-  ended-by : (b : Bool) → eqb ending 0 ≡ b → let o = cond b (Complete.ended p registers sense) (Complete.refused p ending sense) in o .completed .next .state ≡ p .state → o .completed .next ≡ p
+  ended-by : (b : Bool) → eqb ending 0 ≡ b → let o = cond b (Complete.ended p registers form sense) (Complete.refused p form ending sense) in o .completed .next .state ≡ p .state → o .completed .next ≡ p
   ended-by false e h = refl
   ended-by true e h = absurd (some-pending (eqb-true ending 0 e) (rw (← h)))
 
-  pub complete-unmoved : {r : Completed} {s : List ℕ} → Complete.outcome r s ≡ Complete.complete p registers sense → r .next .state ≡ p .state → r .next ≡ p
+  pub complete-unmoved : {r : Completed} {s : List ℕ} → Complete.outcome r s ≡ Complete.complete p registers form sense → r .next .state ≡ p .state → r .next ≡ p
   unfolding Complete.complete
   complete-unmoved e h =
       let n = ap (λ (o : Complete.Outcome). o .completed .next) e in

@@ -48,22 +48,22 @@ answer next number status = record { next = next; ended = record { number = numb
 abbrev pub endStatus : Order → List ℕ → ℕ
 endStatus order registers = cond (failed registers) checkCondition (cond (isSet (order .«ck_cond»)) checkCondition good)
 
-abbrev pub endSense : Order → List ℕ → List ℕ → List ℕ
-endSense order registers sense =
-    cond (failed registers) (written sense 0 (senseData 0x0B 0x00 0x00 (told (isSet (order .extend)) registers)))
-    (cond (isSet (order .«ck_cond»)) (written sense 0 (senseData 0x01 0x00 0x1D (told (isSet (order .extend)) registers)))
+abbrev pub endSense : Order → List ℕ → ℕ → List ℕ → List ℕ
+endSense order registers form sense =
+    cond (failed registers) (written sense 0 (senseData form 0x0B 0x00 0x00 (told (isSet (order .extend)) registers)))
+    (cond (isSet (order .«ck_cond»)) (written sense 0 (senseData form 0x01 0x00 0x1D (told (isSet (order .extend)) registers)))
     sense)
 
 -- Completion empties the record.
-abbrev pub ended : Pending → List ℕ → List ℕ → Outcome
-ended pending registers sense =
-    outcome (answer empty 0 (endStatus (pending .order) registers)) (endSense (pending .order) registers sense)
+abbrev pub ended : Pending → List ℕ → ℕ → List ℕ → Outcome
+ended pending registers form sense =
+    outcome (answer empty 0 (endStatus (pending .order) registers)) (endSense (pending .order) registers form sense)
 
 -- A refusal hands back the record that it was given.
-abbrev pub refused : Pending → ℕ → List ℕ → Outcome
-refused pending number sense = outcome (answer pending number (rowOf number .status)) (refusedSense number sense)
+abbrev pub refused : Pending → ℕ → ℕ → List ℕ → Outcome
+refused pending form number sense = outcome (answer pending number (rowOf number .status)) (refusedSense form number sense)
 
-unfoldable pub complete : Pending → List ℕ → List ℕ → Outcome
-complete pending registers sense =
-    cond (eqb (refusalOf pending registers (length sense)) 0) (ended pending registers sense)
-    (refused pending (refusalOf pending registers (length sense)) sense)
+unfoldable pub complete : Pending → List ℕ → ℕ → List ℕ → Outcome
+complete pending registers form sense =
+    cond (eqb (refusalOf pending registers (length sense)) 0) (ended pending registers form sense)
+    (refused pending form (refusalOf pending registers (length sense)) sense)

@@ -32,20 +32,20 @@ abbrev pub answer : Pending → ℕ → ℕ → Order → Submitted
 answer next number status order = record { next = next; taken = record { number = number; status = status; order = order } }
 
 -- A refusal answers a zero order and hands back the record that it was given.
-abbrev pub refused : Pending → ℕ → List ℕ → Outcome
-refused pending number sense = outcome (answer pending number (rowOf number .status) noOrder) (refusedSense number sense)
+abbrev pub refused : Pending → ℕ → ℕ → List ℕ → Outcome
+refused pending form number sense = outcome (answer pending number (rowOf number .status) noOrder) (refusedSense form number sense)
 
 -- Protocol 15 makes no order and leaves the record: it tells the lent registers, with EXTEND zero, as CHECK CONDITION.
-abbrev pub reported : Pending → List ℕ → List ℕ → Outcome
-reported pending registers sense =
-    outcome (answer pending 0 checkCondition noOrder) (written sense 0 (senseData 0x01 0x00 0x1D (told false registers)))
+abbrev pub reported : Pending → List ℕ → ℕ → List ℕ → Outcome
+reported pending registers form sense =
+    outcome (answer pending 0 checkCondition noOrder) (written sense 0 (senseData form 0x01 0x00 0x1D (told false registers)))
 
 -- An order that is taken fills the record, and has no status until it is completed.
 abbrev pub taken : Order → List ℕ → Outcome
 taken order sense = outcome (answer (holding order) 0 noStatus order) sense
 
-unfoldable pub submit : Pending → List ℕ → List ℕ → ℕ → List ℕ → Outcome
-submit pending command registers declared sense =
+unfoldable pub submit : Pending → List ℕ → List ℕ → ℕ → ℕ → List ℕ → Outcome
+submit pending command registers declared form sense =
     cond (eqb (refusalOf pending command registers declared (length sense)) 0)
-    (cond (eqb (protocol command) 15) (reported pending registers sense) (taken (orderOf command declared) sense))
-    (refused pending (refusalOf pending command registers declared (length sense)) sense)
+    (cond (eqb (protocol command) 15) (reported pending registers form sense) (taken (orderOf command declared) sense))
+    (refused pending form (refusalOf pending command registers declared (length sense)) sense)

@@ -28,20 +28,20 @@ fn failed(registers: &[u8]) -> bool
 }
 
 // Writes the sense data of an order's end, where it has any, and gives its status.
-pub fn tell(order: Order, registers: &[u8], sense: &mut [u8]) -> u8
+pub fn tell(order: Order, registers: &[u8], form: u8, sense: &mut [u8]) -> u8
     requires { ⌜ (length (now registers) ≡ 11) × (22 ≤ length (now sense)) ⌝ }
     ensures status { λ r. ⌜ r ≡ endStatus order (now (registers .entry)) ⌝ }
-    ensures sense { λ _. ⌜ now (sense .exit) ≡ endSense order (now (registers .entry)) (now (sense .entry)) ⌝ }
+    ensures sense { λ _. ⌜ now (sense .exit) ≡ endSense order (now (registers .entry)) form (now (sense .entry)) ⌝ }
 {
     let failed = failed(registers);
     let checked = order.ck_cond != 0;
     let extend = order.extend != 0;
     if failed {
-        sense::report(sense, 0x0B, 0x00, 0x00, extend, registers);
+        sense::report(sense, form, 0x0B, 0x00, 0x00, extend, registers);
         return sense::CHECK_CONDITION;
     }
     if checked {
-        sense::report(sense, 0x01, 0x00, 0x1D, extend, registers);
+        sense::report(sense, form, 0x01, 0x00, 0x1D, extend, registers);
         return sense::CHECK_CONDITION;
     }
     sense::GOOD

@@ -84,9 +84,10 @@ impl Pending {
         command: &[u8],
         registers: &[u8],
         declared: u32,
+        form: u8,
         sense: &mut [u8],
     ) -> Submitted
-        ensures { λ r. ⌜ Submit·outcome r (now (sense .exit)) ≡ Submit·submit self (now (command .entry)) (now (registers .entry)) declared (now (sense .entry)) ⌝ }
+        ensures { λ r. ⌜ Submit·outcome r (now (sense .exit)) ≡ Submit·submit self (now (command .entry)) (now (registers .entry)) declared form (now (sense .entry)) ⌝ }
     {
         let nothing = passthrough_order::no_order();
         let number = passthrough_checks::fault(
@@ -96,31 +97,31 @@ impl Pending {
             sense.len(),
         );
         if number != 0 {
-            return answer(self, number, sense::refuse(sense, number), nothing);
+            return answer(self, number, sense::refuse(sense, form, number), nothing);
         }
         let protocol = passthrough_fields::protocol(command);
         if protocol == 15 {
-            sense::report(sense, 0x01, 0x00, 0x1D, false, registers);
+            sense::report(sense, form, 0x01, 0x00, 0x1D, false, registers);
             return answer(self, 0, sense::CHECK_CONDITION, nothing);
         }
         let order = read::order(command, declared);
         let late = passthrough_checks::length_fault(protocol, order.length, declared);
         if late != 0 {
-            return answer(self, late, sense::refuse(sense, late), nothing);
+            return answer(self, late, sense::refuse(sense, form, late), nothing);
         }
         answer(Pending { state: 1, order }, 0, sense::NONE, order)
     }
 
     // The end of the order that is pending, with the registers that the drive left.
-    pub fn complete(self, registers: &[u8], sense: &mut [u8]) -> Completed
-        ensures { λ r. ⌜ Complete·outcome r (now (sense .exit)) ≡ Complete·complete self (now (registers .entry)) (now (sense .entry)) ⌝ }
+    pub fn complete(self, registers: &[u8], form: u8, sense: &mut [u8]) -> Completed
+        ensures { λ r. ⌜ Complete·outcome r (now (sense .exit)) ≡ Complete·complete self (now (registers .entry)) form (now (sense .entry)) ⌝ }
     {
         let empty = Pending::empty();
         let number = finish::fault(self, registers, sense.len());
         if number != 0 {
-            return end(self, number, sense::refuse(sense, number));
+            return end(self, number, sense::refuse(sense, form, number));
         }
-        let status = finish::tell(self.order, registers, sense);
+        let status = finish::tell(self.order, registers, form, sense);
         end(empty, 0, status)
     }
 }
