@@ -17,10 +17,10 @@ use Rattle.roll.specs.Roll as Roll
 use Rattle.roll.specs.Roll.{roll}
 
 -- The INQUIRY entry with an intake's block for its block; an intake that is refused is a lent piece of a wrong size, 1.
-unfoldable pub inquiryOf : ℕ → List ℕ → List ℕ → List ℕ → List ℕ → List ℕ → List ℕ → List ℕ → Inquiry.Outcome
-inquiryOf have store command signature texts reply room sense =
-    cond (wrongIntake have (length store)) (refused 1 room sense)
-    (inquiry (request command (blockOf have store) signature texts reply) room sense)
+unfoldable pub inquiryOf : ℕ → List ℕ → List ℕ → List ℕ → List ℕ → List ℕ → ℕ → List ℕ → List ℕ → Inquiry.Outcome
+inquiryOf have store command signature texts reply form room sense =
+    cond (wrongIntake have (length store)) (refused form 1 room sense)
+    (inquiry (request command (blockOf have store) signature texts reply) form room sense)
 
 -- Some intake claims more than 512 bytes.
 unfoldable pub claimsTooMuch : List ℕ → Bool

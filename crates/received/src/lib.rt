@@ -22,10 +22,11 @@ pub fn inquiry(
     signature: &[u8],
     texts: &[u8],
     reply: &[u8],
+    form: u8,
     room: &mut [u8],
     sense: &mut [u8],
 ) -> Answer
-    ensures { λ r. ⌜ inquiryOutcome r (now (room .exit)) (now (sense .exit)) ≡ inquiryOf (intake .have) (now (store .entry)) (now (command .entry)) (now (signature .entry)) (now (texts .entry)) (now (reply .entry)) (now (room .entry)) (now (sense .entry)) ⌝ }
+    ensures { λ r. ⌜ inquiryOutcome r (now (room .exit)) (now (sense .exit)) ≡ inquiryOf (intake .have) (now (store .entry)) (now (command .entry)) (now (signature .entry)) (now (texts .entry)) (now (reply .entry)) form (now (room .entry)) (now (sense .entry)) ⌝ }
 {
     if intake::wrong(intake, store.len()) {
         return Answer {
@@ -41,6 +42,7 @@ pub fn inquiry(
         signature,
         texts,
         reply,
+        form,
         room,
         sense,
     )
