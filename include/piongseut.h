@@ -21,8 +21,8 @@
  *  - The code keeps values in the red zone, the 128 bytes below the stack pointer: where interrupts share the stack of what they
  *    interrupt, a handler that may interrupt a call has to skip them.
  *  - The stack pointer is a multiple of 16 at a call, as always in C: a handler that is not entered as a C function aligns it.
- *  - Stack, with the return address and the arguments that go by the stack: piongseut_census_feed 208 bytes, piongseut_inquiry 200,
- *    piongseut_submit 184, piongseut_complete 112, piongseut_intake_gather 96, every other function 64 or less (the most over all
+ *  - Stack, with the return address and the arguments that go by the stack: piongseut_inquiry 216 bytes, piongseut_census_feed 208,
+ *    piongseut_submit 192, piongseut_complete 128, piongseut_intake_gather 96, every other function 64 or less (the most over all
  *    paths of the compiled code, and seen: docs/PERFORMANCE.md).
  *
  * Bytes stand in SCSI's order: two-byte lengths high byte first, IDENTIFY words as the drive sends them.
@@ -61,7 +61,7 @@ extern "C" {
 
 /*
  * Refusal numbers, each with its status, key, ASC and ASCQ if it has them, and when it is given. A refusal changes nothing that was
- * lent, but for the sense room where there is a key: its first eight bytes then are 72h, key, ASC, ASCQ, 00 00 00 00. They are
+ * lent, but for the sense room where there is a key: sense data then stand at its front, in the form that was asked for. They are
  * checked in this order: 1, 17, 18, no command bytes (2), 3, too few command bytes (2), then 4 upward. A block is damaged if it has 512
  * bytes, the low byte of its word 255 (byte 510) is A5h, and its bytes do not sum to 0 modulo 256; where one is lent, nothing of it is
  * used. No function asks the sum that an intake carries: each sums the block itself.
@@ -93,8 +93,22 @@ extern "C" {
 #define PIONGSEUT_REGISTERS_SIZE 11
 #define PIONGSEUT_SENSE_SIZE 22
 
-/* Bytes of sense data that a refusal leaves; completion and PROTOCOL 15 leave PIONGSEUT_SENSE_SIZE of them. */
+/*
+ * The form of sense data that a caller asks for. UNSTATED, and every number that is none of these, gets descriptors.
+ *  - Descriptor: 72h, key, ASC, ASCQ, 00 00 00 and how many bytes follow; after a refusal none, so that it is 8 bytes; completion and
+ *    PROTOCOL 15 tell the registers in a descriptor of 14 behind them, so that it is 22.
+ *  - Fixed, always 18: byte 0 is 70h, 2 the key, 7 is 0Ah, 12 and 13 are ASC and ASCQ. Where registers are told, bytes 3 to 6 are error,
+ *    status, device, count; 8 has bit 7 EXTEND, bit 6 the count's upper byte is not zero, bit 5 an upper byte of the LBA is not zero; 9 to
+ *    11 are LBA low, mid, high; of count and LBA these are the lower bytes. With EXTEND zero bits 6 and 5 are zero. All else is zero.
+ * The sense room behind these bytes is untouched; of either form it has at least PIONGSEUT_SENSE_SIZE bytes.
+ */
+#define PIONGSEUT_SENSE_UNSTATED 0
+#define PIONGSEUT_SENSE_FIXED 1
+#define PIONGSEUT_SENSE_DESCRIPTOR 2
+
+/* Bytes of sense data: in the descriptor form after a refusal, and PIONGSEUT_SENSE_SIZE with registers; in the fixed form. */
 #define PIONGSEUT_REFUSAL_SENSE_SIZE 8
+#define PIONGSEUT_FIXED_SENSE_SIZE 18
 
 /* Sizes of pages, in bytes. Output room for page 89h is enough for every INQUIRY. */
 #define PIONGSEUT_STANDARD_SIZE 36
@@ -137,7 +151,7 @@ PIONGSEUT_HAS_SIZE(piongseut_inquiry_answer, 16)
  * Lent to read: the command bytes (any number; bytes past the sixth are ignored); the IDENTIFY block, 512 bytes, or 0 where the
  * drive gave none; the drive's signature, 20 bytes (bytes 5 and 6 are 14h EBh for a packet drive); the translator's texts,
  * 28 bytes: vendor (8), product (16), revision (4), for page 89h; and for a packet drive its own reply to this command, of any
- * size. Lent to write: the output room, and sense room of at least 22 bytes.
+ * size. `form` is that of the sense data (PIONGSEUT_SENSE_...). Lent to write: the output room, and sense room of at least 22 bytes.
  * Back: what is shown, and how many bytes of it. No more than the allocation length are shown, and room past them is untouched.
  * Refusals: 1 (a block that is neither 512 nor 0 bytes, a signature not of 20, texts not of 28, sense room below 22), 18 (a damaged
  * block, whatever is asked), 2, 3, 4, 5, 6, 7, 8. 4 to 6 are not given for packet drives.
@@ -147,6 +161,7 @@ piongseut_inquiry_answer piongseut_inquiry(const uint8_t *command, size_t comman
                                            const uint8_t *signature, size_t signature_size,
                                            const uint8_t *texts, size_t texts_size,
                                            const uint8_t *reply, size_t reply_size,
+                                           uint8_t form,
                                            uint8_t *room, size_t room_size,
                                            uint8_t *sense, size_t sense_size);
 
@@ -223,10 +238,10 @@ piongseut_record piongseut_record_empty(void);
  * Submits an ATA PASS-THROUGH command (A1h with 12 bytes, 85h with 16).
  *
  * Lent to read: the command bytes; the drive's registers as they are now, 11 bytes (PIONGSEUT_REGISTER_... names their places),
- * which PROTOCOL 15 reports. `declared` is the host's own length of the data, in bytes. Lent to write: the record, and sense room
- * of at least 22 bytes.
- * Back: the order to carry out, which the record now holds; or for PROTOCOL 15 number 0, CHECK CONDITION with 22 sense bytes, no
- * order, and the record as it was.
+ * which PROTOCOL 15 reports. `declared` is the host's own length of the data, in bytes, and `form` that of the sense data
+ * (PIONGSEUT_SENSE_...); the record does not hold it. Lent to write: the record, and sense room of at least 22 bytes.
+ * Back: the order to carry out, which the record now holds; or for PROTOCOL 15 number 0, CHECK CONDITION with sense data that tell the
+ * registers, no order, and the record as it was.
  * Refusals: 1 (registers not of 11 bytes, sense room below 22), 2, 3, 4, 9 to 14. A refusal leaves the record as it was.
  *
  * On packet (MMC) drives the opcode A1h is BLANK. This function is lent no signature and takes A1h for ATA PASS-THROUGH (12):
@@ -236,17 +251,20 @@ piongseut_submit_answer piongseut_submit(piongseut_record *record,
                                          const uint8_t *command, size_t command_size,
                                          const uint8_t *registers, size_t registers_size,
                                          uint32_t declared,
+                                         uint8_t form,
                                          uint8_t *sense, size_t sense_size);
 
 /*
- * Ends the order that the record holds, with the registers that the drive left (11 bytes, as above), and empties the record.
+ * Ends the order that the record holds, with the registers that the drive left (11 bytes, as above), and empties the record. `form` is
+ * that of the sense data, whatever it was when the command was submitted.
  *
- * Back: CHECK CONDITION with 22 sense bytes if the drive's status has bit 0 or 5 (key 0Bh) or the order asked for it (key 01h);
- * else GOOD with the sense room untouched.
+ * Back: CHECK CONDITION with sense data that tell the registers if the drive's status has bit 0 or 5 (key 0Bh) or the order asked for it
+ * (key 01h); else GOOD with the sense room untouched.
  * Refusals: 1 (sizes as above), 15. A refusal leaves the record as it was.
  */
 piongseut_complete_answer piongseut_complete(piongseut_record *record,
                                              const uint8_t *registers, size_t registers_size,
+                                             uint8_t form,
                                              uint8_t *sense, size_t sense_size);
 
 /* ---- Page 83h, which names a drive ---- */

@@ -35,12 +35,13 @@ pub extern "C" fn piongseut_inquiry(
     signature: &[u8],
     texts: &[u8],
     reply: &[u8],
+    form: u8,
     room: &mut [u8],
     sense: &mut [u8],
 ) -> Answer
-    ensures { λ r. ⌜ inquiryOutcome r (now (room .exit)) (now (sense .exit)) ≡ inquiryRule (request (now (command .entry)) (now (block .entry)) (now (signature .entry)) (now (texts .entry)) (now (reply .entry))) (now (room .entry)) (now (sense .entry)) ⌝ }
+    ensures { λ r. ⌜ inquiryOutcome r (now (room .exit)) (now (sense .exit)) ≡ inquiryRule (request (now (command .entry)) (now (block .entry)) (now (signature .entry)) (now (texts .entry)) (now (reply .entry))) form (now (room .entry)) (now (sense .entry)) ⌝ }
 {
-    inquiry::inquiry(command, block, signature, texts, reply, room, sense)
+    inquiry::inquiry(command, block, signature, texts, reply, form, room, sense)
 }
 
 // A record that holds nothing.
@@ -59,12 +60,13 @@ pub extern "C" fn piongseut_submit(
     command: &[u8],
     registers: &[u8],
     declared: u32,
+    form: u8,
     sense: &mut [u8],
 ) -> Taken
-    ensures { λ r. ⌜ submitOutcome (record { next = now (state .exit); taken = r }) (now (sense .exit)) ≡ submitRule (now (state .entry)) (now (command .entry)) (now (registers .entry)) declared (now (sense .entry)) ⌝ }
+    ensures { λ r. ⌜ submitOutcome (record { next = now (state .exit); taken = r }) (now (sense .exit)) ≡ submitRule (now (state .entry)) (now (command .entry)) (now (registers .entry)) declared form (now (sense .entry)) ⌝ }
 {
     let p = *state;
-    let submitted = p.submit(command, registers, declared, sense);
+    let submitted = p.submit(command, registers, declared, form, sense);
     if submitted.next.state != p.state {
         *state = submitted.next;
     }
@@ -76,12 +78,13 @@ pub extern "C" fn piongseut_submit(
 pub extern "C" fn piongseut_complete(
     state: &mut Pending,
     registers: &[u8],
+    form: u8,
     sense: &mut [u8],
 ) -> Ended
-    ensures { λ r. ⌜ completeOutcome (record { next = now (state .exit); ended = r }) (now (sense .exit)) ≡ completeRule (now (state .entry)) (now (registers .entry)) (now (sense .entry)) ⌝ }
+    ensures { λ r. ⌜ completeOutcome (record { next = now (state .exit); ended = r }) (now (sense .exit)) ≡ completeRule (now (state .entry)) (now (registers .entry)) form (now (sense .entry)) ⌝ }
 {
     let p = *state;
-    let completed = p.complete(registers, sense);
+    let completed = p.complete(registers, form, sense);
     if completed.next.state != p.state {
         *state = completed.next;
     }
