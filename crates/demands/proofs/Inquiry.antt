@@ -26,33 +26,33 @@ use Rattle.demands.proofs.Page83.{same-drive-same-page, same-page}
 
 pub within-allocation : WithinAllocation
 unfolding inquiry
-within-allocation q room sense = by (eqb (refusalOf q (length room) (length sense)) 0) (passesThrough (isPacket q) (q .command))
+within-allocation q form room sense = by (eqb (refusalOf q (length room) (length sense)) 0) (passesThrough (isPacket q) (q .command))
   where
-    by : (ok through : Bool) → cond ok (cond through (passed q room sense) (served q room sense)) (refused (refusalOf q (length room) (length sense)) room sense) .answer .count ≤ allocation (q .command)
+    by : (ok through : Bool) → cond ok (cond through (passed q room sense) (served q room sense)) (refused form (refusalOf q (length room) (length sense)) room sense) .answer .count ≤ allocation (q .command)
     by true true = omega arith
     by true false = omega arith
     by false through = omega arith
 
 -- What an accepted INQUIRY shows: the drive's own reply or the page, cut to the allocation length.
-module _ (q : Request) (room sense : List ℕ) where
+module _ (q : Request) (form : ℕ) (room sense : List ℕ) where
   abbrev refusal : ℕ
   refusal = refusalOf q (length room) (length sense)
 
   abbrev accepted : Bool → Outcome
   accepted through = cond through (passed q room sense) (served q room sense)
 
-  zero : inquiry q room sense .answer .number ≡ 0 → refusal ≡ 0
+  zero : inquiry q form room sense .answer .number ≡ 0 → refusal ≡ 0
   unfolding inquiry
-  zero e = not-refused (λ (o : Outcome). o .answer .number) (λ n. refused n room sense) (accepted (passesThrough (isPacket q) (q .command))) refusal refl e
+  zero e = not-refused (λ (o : Outcome). o .answer .number) (λ n. refused form n room sense) (accepted (passesThrough (isPacket q) (q .command))) refusal refl e
 
   early : refusal ≡ 0 → earlyRefusal q (length sense) ≡ 0
   early z = accepted-early q (length room) (length sense) z
 
-  inquiry-is : refusal ≡ 0 → inquiry q room sense ≡ accepted (passesThrough (isPacket q) (q .command))
+  inquiry-is : refusal ≡ 0 → inquiry q form room sense ≡ accepted (passesThrough (isPacket q) (q .command))
   unfolding inquiry
   inquiry-is z = rw (eq-eqb refusal 0 z)
 
-  shows : refusal ≡ 0 → shown q (inquiry q room sense) ≡ take (allocation (q .command)) (cond (passesThrough (isPacket q) (q .command)) (q .reply) (page q))
+  shows : refusal ≡ 0 → shown q (inquiry q form room sense) ≡ take (allocation (q .command)) (cond (passesThrough (isPacket q) (q .command)) (q .reply) (page q))
   shows z = ap (shown q) (inquiry-is z) ∙ by (passesThrough (isPacket q) (q .command))
     where
       by : (t : Bool) → shown q (accepted t) ≡ take (allocation (q .command)) (cond t (q .reply) (page q))
@@ -88,20 +88,20 @@ module _ (q : Request) where
       let low : getD (withAllocation n (q .command)) 4 0 ≡ n % 0x100 = getD-set-same (set (q .command) 3 (n / 0x100)) 4 (n % 0x100) 0 (omega arith) in
       rw (high, low) (omega arith)
 
-  shows-asked : (n : ℕ) (room sense : List ℕ) → n < 0x10000 → inquiry (asking q n) room sense .answer .number ≡ 0 → shown (asking q n) (inquiry (asking q n) room sense) ≡ take n whatever
-  shows-asked n room sense h e =
-      let z = zero (asking q n) room sense e in
-      let l = granted (asking q n) (length sense) (early (asking q n) room sense z) .whole in
-      shows (asking q n) room sense z ∙ ap (λ (k : ℕ). take k (cond (passesThrough (isPacket q) (withAllocation n (q .command))) (q .reply) (page (asking q n)))) (own-length n l h) ∙ ap (take n) (same-reply n)
+  shows-asked : (n form : ℕ) (room sense : List ℕ) → n < 0x10000 → inquiry (asking q n) form room sense .answer .number ≡ 0 → shown (asking q n) (inquiry (asking q n) form room sense) ≡ take n whatever
+  shows-asked n form room sense h e =
+      let z = zero (asking q n) form room sense e in
+      let l = granted (asking q n) (length sense) (early (asking q n) form room sense z) .whole in
+      shows (asking q n) form room sense z ∙ ap (λ (k : ℕ). take k (cond (passesThrough (isPacket q) (withAllocation n (q .command))) (q .reply) (page (asking q n)))) (own-length n l h) ∙ ap (take n) (same-reply n)
 
 pub cut-again : CutAgain
-cut-again q a b room sense other-room other-sense le lt ea eb =
+cut-again q a b form other-form room sense other-room other-sense le lt ea eb =
     let least : min b a ≡ a = omega arith in
-    shows-asked q a room sense (omega arith) ea
-    ∙ sym (ap (take a) (shows-asked q b other-room other-sense lt eb) ∙ cut-twice b a (whatever q) ∙ ap (λ (n : ℕ). take n (whatever q)) least)
+    shows-asked q a form room sense (omega arith) ea
+    ∙ sym (ap (take a) (shows-asked q b other-form other-room other-sense lt eb) ∙ cut-twice b a (whatever q) ∙ ap (λ (n : ℕ). take n (whatever q)) least)
 
 -- Asked for the complete page 83h, it shows the page.
-module _ (q : Request) (room sense : List ℕ) (a : AsksItsName q room sense) where
+module _ (q : Request) (form : ℕ) (room sense : List ℕ) (a : AsksItsName q room sense) where
   through : passesThrough (isPacket q) (q .command) ≡ false
   through = rw (a .disk)
 
@@ -109,7 +109,7 @@ module _ (q : Request) (room sense : List ℕ) (a : AsksItsName q room sense) wh
   unfolding page
   page-is = rw (a .disk, a .page-asked, a .page-83h)
 
-  accepts : refusal q room sense ≡ 0
+  accepts : refusal q form room sense ≡ 0
   unfolding refusalOf
   accepts =
       let fits : toWrite q ≤ length room = omega (arith, ap length page-is, a .block .enough) in
@@ -130,8 +130,8 @@ module _ (q : Request) (room sense : List ℕ) (a : AsksItsName q room sense) wh
         a .page-83h,
       )
 
-  number-zero : inquiry q room sense .answer .number ≡ 0
-  number-zero = rw (inquiry-is q room sense accepts, through)
+  number-zero : inquiry q form room sense .answer .number ≡ 0
+  number-zero = rw (inquiry-is q form room sense accepts, through)
 
   short-enough : length (page83 (q .block)) ≤ allocation (q .command)
   short-enough = rw (page-sizes (q .block) (a .block .whole)) (by (carriesName (q .block)))
@@ -140,17 +140,17 @@ module _ (q : Request) (room sense : List ℕ) (a : AsksItsName q room sense) wh
       by true = omega (arith, a .complete)
       by false = a .complete
 
-  shown-is : shown q (inquiry q room sense) ≡ page83 (q .block)
+  shown-is : shown q (inquiry q form room sense) ≡ page83 (q .block)
   shown-is =
-      shows q room sense accepts
+      shows q form room sense accepts
       ∙ rw (through, page-is) (cut-to-more (allocation (q .command)) (page83 (q .block)) short-enough)
 
 pub pages-of-inquiry : PagesOfInquiry
-pages-of-inquiry q r room sense other-room other-sense a b =
-    let pa = shown-is q room sense a in
-    let pb = shown-is r other-room other-sense b in (
-      number-zero q room sense a,
-      number-zero r other-room other-sense b,
+pages-of-inquiry q r form other-form room sense other-room other-sense a b =
+    let pa = shown-is q form room sense a in
+    let pb = shown-is r other-form other-room other-sense b in (
+      number-zero q form room sense a,
+      number-zero r other-form other-room other-sense b,
       (
         λ e. same-page (q .block) (r .block) (a .block .whole) (b .block .whole) (sym pa ∙ e ∙ pb),
         λ e. pa ∙ same-drive-same-page (q .block) (r .block) e ∙ sym pb,

@@ -6,6 +6,7 @@ use Rattle.demands.proofs.Refusals.{refusals-change-nothing}
 use Rattle.demands.proofs.Soundings.{soundings-hold}
 use Rattle.demands.proofs.Inquiry.{within-allocation, cut-again, pages-of-inquiry}
 use Rattle.demands.proofs.Order.{direction-from-the-fields, only-the-command-differs, own-flags, completed-with-its-own-fields, none-taken-while-pending, protocol-15-keeps-the-record}
+use Rattle.demands.proofs.Forms.{forms-agree-everywhere, form-changes-only-sense}
 use Rattle.demands.proofs.Page83.{reads-back, accepted-is-written, writer-accepts, pages-of-the-writer}
 use Rattle.demands.proofs.Roll.{roll-accepts, roll-of-drives}
 use Rattle.demands.proofs.Damaged.{damaged-is-refused, carried-sum}
@@ -18,17 +19,17 @@ settled outcome a b p q = p ∙ sym q
 pub one-outcome : OneOutcome
 one-outcome =
     record {
-      of-inquiry = λ q room sense. settled _;
+      of-inquiry = λ q form room sense. settled _;
       of-served = λ reply room shown count. settled _;
-      of-submit = λ p command registers declared sense. settled _;
-      of-complete = λ p registers sense. settled _;
+      of-submit = λ p command registers declared form sense. settled _;
+      of-complete = λ p registers form sense. settled _;
       of-write = λ block room. settled _;
       of-read = λ page. settled _;
       of-roll = λ bytes room. settled _;
       of-take = λ held store run. settled _;
       of-block = λ have store. settled _;
       of-gather = λ haves stores room. settled _;
-      of-inquiry-from-intake = λ have store command signature texts reply room sense. settled _;
+      of-inquiry-from-intake = λ have store command signature texts reply form room sense. settled _;
       of-roll-of-intakes = λ haves stores room rows. settled _;
       of-feed = λ c block. settled _;
     }
@@ -48,6 +49,8 @@ kept =
       completed-with-its-own-fields = completed-with-its-own-fields;
       none-taken-while-pending = none-taken-while-pending;
       protocol-15-keeps-the-record = protocol-15-keeps-the-record;
+      forms-agree = forms-agree-everywhere;
+      form-changes-only-sense = form-changes-only-sense;
       reads-back = reads-back;
       accepted-is-written = accepted-is-written;
       same-drive-by-words = λ a b ba bb la lb. same-drive-by-words ba bb la lb;

@@ -8,4 +8,5 @@ pub mod Roll
 pub mod Stream
 pub mod Damaged
 pub mod Census
+pub mod Forms
 pub mod Kept

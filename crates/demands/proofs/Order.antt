@@ -74,9 +74,9 @@ later true n rest h r = h
 later false n rest h r = r
 
 -- Completing a record that holds an order goes by that order.
-ends-by : (order : Order) (left room sense : List ℕ) → length left ≡ 11 → 22 ≤ length room → EndsBy left room (Submit.taken order sense)
+ends-by : (order : Order) (left : List ℕ) (form : ℕ) (room sense : List ℕ) → length left ≡ 11 → 22 ≤ length room → EndsBy left form room (Submit.taken order sense)
 unfolding complete Complete.refusalOf
-ends-by order left room sense l r = rw (eq-eqb _ _ l, le-ltb _ _ r)
+ends-by order left form room sense l r = rw (eq-eqb _ _ l, le-ltb _ _ r)
 
 -- A command that was not refused is answered, or its order is taken.
 module _ (s : Submission) where
@@ -84,10 +84,10 @@ module _ (s : Submission) where
   refusal = Submit.refusalOf (s .record-given) (s .command) (s .registers) (s .declared) (length (s .sense))
 
   abbrev accepted : Bool → Submit.Outcome
-  accepted told = cond told (Submit.reported (s .record-given) (s .registers) (s .sense)) (Submit.taken (orderOf (s .command) (s .declared)) (s .sense))
+  accepted told = cond told (Submit.reported (s .record-given) (s .registers) (s .form) (s .sense)) (Submit.taken (orderOf (s .command) (s .declared)) (s .sense))
 
   abbrev refused : ℕ → Submit.Outcome
-  refused number = Submit.refused (s .record-given) number (s .sense)
+  refused number = Submit.refused (s .record-given) (s .form) number (s .sense)
 
   zero : numberOf s ≡ 0 → refusal ≡ 0
   unfolding submit
@@ -111,9 +111,9 @@ pub direction-from-the-fields : DirectionFromTheFields
 direction-from-the-fields s t es et p d = rw (direction-of s es, direction-of t et, p, d)
 
 pub completed-with-its-own-fields : CompletedWithItsOwnFields
-completed-with-its-own-fields s e h left room l r =
+completed-with-its-own-fields s e h left form room l r =
     let w = taken s e h in
-    (ap (λ (o : Submit.Outcome). o .submitted .taken .order) w, subst (EndsBy left room) (sym w) (ends-by (orderOf (s .command) (s .declared)) left room (s .sense) l r))
+    (ap (λ (o : Submit.Outcome). o .submitted .taken .order) w, subst (EndsBy left form room) (sym w) (ends-by (orderOf (s .command) (s .declared)) left form room (s .sense) l r))
 
 pub none-taken-while-pending : NoneTakenWhilePending
 unfolding Checks.refusalOf
@@ -125,6 +125,6 @@ pub protocol-15-keeps-the-record : Protocol15KeepsTheRecord
 unfolding submit
 protocol-15-keeps-the-record s h = rw (eq-eqb (protocol (s .command)) 15 h) (by (eqb (refusal s) 0))
   where
-    by : (t : Bool) → cond t (Submit.reported (s .record-given) (s .registers) (s .sense)) (refused s (refusal s)) .submitted .next ≡ s .record-given
+    by : (t : Bool) → cond t (Submit.reported (s .record-given) (s .registers) (s .form) (s .sense)) (refused s (refusal s)) .submitted .next ≡ s .record-given
     by true = refl
     by false = refl

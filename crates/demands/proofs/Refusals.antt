@@ -57,28 +57,28 @@ either-zero number a b false p q = q
 abbrev inquiryNumber : Inquiry.Outcome → ℕ
 inquiryNumber o = o .answer .number
 
-of-inquiry : (q : Request) (room sense : List ℕ) → Refused (inquiry q room sense .answer .number) → inquiry q room sense ≡ Inquiry.refused (inquiry q room sense .answer .number) room sense
+of-inquiry : (q : Request) (form : ℕ) (room sense : List ℕ) → Refused (inquiry q form room sense .answer .number) → inquiry q form room sense ≡ Inquiry.refused form (inquiry q form room sense .answer .number) room sense
 unfolding inquiry
-of-inquiry q room sense h =
+of-inquiry q form room sense h =
     let r = InquiryChecks.refusalOf q (length room) (length sense) in
-    by-number inquiryNumber (λ n. Inquiry.refused n room sense) _ r (eqb r 0)
+    by-number inquiryNumber (λ n. Inquiry.refused form n room sense) _ r (eqb r 0)
     (either-zero inquiryNumber (Inquiry.passed q room sense) (Inquiry.served q room sense) (passesThrough (isPacket q) (q .command)) refl refl) refl h
 
 abbrev submitNumber : Submit.Outcome → ℕ
 submitNumber o = o .submitted .taken .number
 
-of-submit : (p : Pending) (command registers : List ℕ) (declared : ℕ) (sense : List ℕ) → Refused (submit p command registers declared sense .submitted .taken .number) → submit p command registers declared sense ≡ Submit.refused p (submit p command registers declared sense .submitted .taken .number) sense
+of-submit : (p : Pending) (command registers : List ℕ) (declared form : ℕ) (sense : List ℕ) → Refused (submit p command registers declared form sense .submitted .taken .number) → submit p command registers declared form sense ≡ Submit.refused p form (submit p command registers declared form sense .submitted .taken .number) sense
 unfolding submit
-of-submit p command registers declared sense h =
+of-submit p command registers declared form sense h =
     let r = Submit.refusalOf p command registers declared (length sense) in
-    by-number submitNumber (λ n. Submit.refused p n sense) _ r (eqb r 0)
-    (either-zero submitNumber (Submit.reported p registers sense) (Submit.taken (orderOf command declared) sense) (eqb (protocol command) 15) refl refl) refl h
+    by-number submitNumber (λ n. Submit.refused p form n sense) _ r (eqb r 0)
+    (either-zero submitNumber (Submit.reported p registers form sense) (Submit.taken (orderOf command declared) sense) (eqb (protocol command) 15) refl refl) refl h
 
-of-complete : (p : Pending) (registers sense : List ℕ) → Refused (complete p registers sense .completed .ended .number) → complete p registers sense ≡ Complete.refused p (complete p registers sense .completed .ended .number) sense
+of-complete : (p : Pending) (registers : List ℕ) (form : ℕ) (sense : List ℕ) → Refused (complete p registers form sense .completed .ended .number) → complete p registers form sense ≡ Complete.refused p form (complete p registers form sense .completed .ended .number) sense
 unfolding complete
-of-complete p registers sense h =
+of-complete p registers form sense h =
     let r = Complete.refusalOf p registers (length sense) in
-    by-number (λ (o : Complete.Outcome). o .completed .ended .number) (λ n. Complete.refused p n sense) _ r (eqb r 0) refl refl h
+    by-number (λ (o : Complete.Outcome). o .completed .ended .number) (λ n. Complete.refused p form n sense) _ r (eqb r 0) refl refl h
 
 of-write : (block room : List ℕ) → Refused (write block room .written .number) → write block room ≡ Page83.outcome (record { number = write block room .written .number; count = 0 }) room
 unfolding write
@@ -118,16 +118,16 @@ of-gather haves stores room h =
     let r = Received.gatherRefusal haves stores (length room) in
     by-number (λ (o : Received.GatherOutcome). o .gathered .number) (λ n. Received.gatherOutcome (Received.given n 0) room) _ r (eqb r 0) refl refl h
 
-of-inquiry-from-intake : (have : ℕ) (store command signature texts reply room sense : List ℕ) → Refused (inquiryOf have store command signature texts reply room sense .answer .number) → inquiryOf have store command signature texts reply room sense ≡ Inquiry.refused (inquiryOf have store command signature texts reply room sense .answer .number) room sense
+of-inquiry-from-intake : (have : ℕ) (store command signature texts reply : List ℕ) (form : ℕ) (room sense : List ℕ) → Refused (inquiryOf have store command signature texts reply form room sense .answer .number) → inquiryOf have store command signature texts reply form room sense ≡ Inquiry.refused form (inquiryOf have store command signature texts reply form room sense .answer .number) room sense
 unfolding inquiryOf
-of-inquiry-from-intake have store command signature texts reply room sense h = by (wrongIntake have (length store)) h
+of-inquiry-from-intake have store command signature texts reply form room sense h = by (wrongIntake have (length store)) h
   where
     q : Request
     q = request command (blockOf have store) signature texts reply
 
-    by : (t : Bool) → Refused (cond t (Inquiry.refused 1 room sense) (inquiry q room sense) .answer .number) → cond t (Inquiry.refused 1 room sense) (inquiry q room sense) ≡ Inquiry.refused (cond t (Inquiry.refused 1 room sense) (inquiry q room sense) .answer .number) room sense
+    by : (t : Bool) → Refused (cond t (Inquiry.refused form 1 room sense) (inquiry q form room sense) .answer .number) → cond t (Inquiry.refused form 1 room sense) (inquiry q form room sense) ≡ Inquiry.refused form (cond t (Inquiry.refused form 1 room sense) (inquiry q form room sense) .answer .number) room sense
     by true h = refl
-    by false h = of-inquiry q room sense h
+    by false h = of-inquiry q form room sense h
 
 -- The roll of intakes, where it is not refused, is a roll that is not.
 not-by-roll : (wrong short : Bool) (number : ℕ) → first ((1 when wrong) ∷ (number when not (eqb number 0)) ∷ (8 when short) ∷ []) ≡ 0 → number ≡ 0

@@ -3,7 +3,7 @@ use mathlib.Core.Path.{refl}
 use Rattle.texts.specs.Text.{turned}
 use Rattle.checksum.specs.Checksum.{damaged, damagedBy}
 use Rattle.identify.specs.Drive.{someBit, carriesName, equal}
-use Rattle.sense.specs.Sense.{senseData}
+use Rattle.sense.specs.Sense.{isFixed, descriptorSense, senseData}
 use Rattle.sense.specs.Refusal.{rowOf, refusedSense}
 use Rattle.page83.specs.Page83.{page83}
 use Rattle.inquiry_checks.specs.Asked.{page}
@@ -17,5 +17,5 @@ use Rattle.passthrough.specs.Complete.{complete, refusalOf as completeRefusal}
 use Rattle.demands.specs.Soundings.{SoundingsHold}
 
 pub soundings-hold : SoundingsHold
-unfolding turned damaged damagedBy someBit carriesName equal senseData rowOf refusedSense page83 page inquiry inquiryRefusal lengthOf orderOf submit submitRefusal complete completeRefusal
+unfolding turned damaged damagedBy someBit carriesName equal isFixed descriptorSense senseData rowOf refusedSense page83 page inquiry inquiryRefusal lengthOf orderOf submit submitRefusal complete completeRefusal
 soundings-hold = refl

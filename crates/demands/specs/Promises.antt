@@ -12,7 +12,9 @@ use Rattle.rules.specs.Bits.{flag}
 use Rattle.room.specs.Room.{written}
 use Rattle.texts.specs.Text.{turned, spaced}
 use Rattle.checksum.specs.Checksum.{sumOf, damagedBy, damaged}
-use Rattle.sense.specs.Refusal.{noStatus}
+use Rattle.sense.specs.Sense.{Told, isFixed, fixedSense, descriptorSense}
+use Rattle.sense.specs.Refusal.{noStatus, checkCondition}
+use Rattle.sense.specs.Carried.{sensed, inFixed, inDescriptor}
 use Rattle.identify.specs.Block.{serial, model, name}
 use Rattle.identify.specs.Bytes.{Bytes}
 use Rattle.identify.specs.Words.{NameInWords, TextsInWords}
@@ -63,17 +65,17 @@ abbrev pub Settled : {O : Type 0} → O → Type 0
 Settled {O} outcome = (a b : O) → a ≡ outcome → b ≡ outcome → a ≡ b
 
 pub record OneOutcome : Type 0 where
-  pub of-inquiry : (q : Request) (room sense : List ℕ) → Settled (inquiry q room sense)
+  pub of-inquiry : (q : Request) (form : ℕ) (room sense : List ℕ) → Settled (inquiry q form room sense)
   pub of-served : (reply room : List ℕ) (shown count : ℕ) → Settled (part reply room shown count)
-  pub of-submit : (p : Pending) (command registers : List ℕ) (declared : ℕ) (sense : List ℕ) → Settled (submit p command registers declared sense)
-  pub of-complete : (p : Pending) (registers sense : List ℕ) → Settled (complete p registers sense)
+  pub of-submit : (p : Pending) (command registers : List ℕ) (declared form : ℕ) (sense : List ℕ) → Settled (submit p command registers declared form sense)
+  pub of-complete : (p : Pending) (registers : List ℕ) (form : ℕ) (sense : List ℕ) → Settled (complete p registers form sense)
   pub of-write : (block room : List ℕ) → Settled (write block room)
   pub of-read : (page : List ℕ) → Settled (read page)
   pub of-roll : (bytes room : List ℕ) → Settled (roll bytes room)
   pub of-take : (held : Intake) (store run : List ℕ) → Settled (taken held store run)
   pub of-block : (have store : ℕ) → Settled (Intake.offered have store)
   pub of-gather : (haves stores room : List ℕ) → Settled (gatherOf haves stores room)
-  pub of-inquiry-from-intake : (have : ℕ) (store command signature texts reply room sense : List ℕ) → Settled (inquiryOf have store command signature texts reply room sense)
+  pub of-inquiry-from-intake : (have : ℕ) (store command signature texts reply : List ℕ) (form : ℕ) (room sense : List ℕ) → Settled (inquiryOf have store command signature texts reply form room sense)
   pub of-roll-of-intakes : (haves stores room rows : List ℕ) → Settled (rollOf haves stores room rows)
   pub of-feed : (c : Census) (block : List ℕ) → Settled (feed c block)
 
@@ -82,15 +84,15 @@ pub record OneOutcome : Type 0 where
 -- A refusal changes nothing lent but the sense bytes of its row, and hands back what a refusal hands back: the outcome of an entry
 -- that refuses is the one that its number alone decides.
 pub record RefusalsChangeNothing : Type 0 where
-  pub of-inquiry : (q : Request) (room sense : List ℕ) → Refused (inquiry q room sense .answer .number) → inquiry q room sense ≡ Inquiry.refused (inquiry q room sense .answer .number) room sense
-  pub of-submit : (p : Pending) (command registers : List ℕ) (declared : ℕ) (sense : List ℕ) → Refused (submit p command registers declared sense .submitted .taken .number) → submit p command registers declared sense ≡ Submit.refused p (submit p command registers declared sense .submitted .taken .number) sense
-  pub of-complete : (p : Pending) (registers sense : List ℕ) → Refused (complete p registers sense .completed .ended .number) → complete p registers sense ≡ Complete.refused p (complete p registers sense .completed .ended .number) sense
+  pub of-inquiry : (q : Request) (form : ℕ) (room sense : List ℕ) → Refused (inquiry q form room sense .answer .number) → inquiry q form room sense ≡ Inquiry.refused form (inquiry q form room sense .answer .number) room sense
+  pub of-submit : (p : Pending) (command registers : List ℕ) (declared form : ℕ) (sense : List ℕ) → Refused (submit p command registers declared form sense .submitted .taken .number) → submit p command registers declared form sense ≡ Submit.refused p form (submit p command registers declared form sense .submitted .taken .number) sense
+  pub of-complete : (p : Pending) (registers : List ℕ) (form : ℕ) (sense : List ℕ) → Refused (complete p registers form sense .completed .ended .number) → complete p registers form sense ≡ Complete.refused p form (complete p registers form sense .completed .ended .number) sense
   pub of-write : (block room : List ℕ) → Refused (write block room .written .number) → write block room ≡ Page83.outcome (record { number = write block room .written .number; count = 0 }) room
   pub of-read : (page : List ℕ) → Refused (read page .number) → read page ≡ record { number = 16; form = 0; name = inSixty [] }
   pub of-roll : (bytes room : List ℕ) → Refused (roll bytes room .counted .number) → roll bytes room ≡ Roll.outcome (record { number = roll bytes room .counted .number; blocks = 0; drives = 0 }) room
   pub of-take : (held : Intake) (store run : List ℕ) → Refused (taken held store run .took .number) → taken held store run ≡ Intake.outcome (Intake.answer held 0 (taken held store run .took .number) 0) store
   pub of-gather : (haves stores room : List ℕ) → Refused (gatherOf haves stores room .gathered .number) → gatherOf haves stores room ≡ Received.gatherOutcome (Received.given (gatherOf haves stores room .gathered .number) 0) room
-  pub of-inquiry-from-intake : (have : ℕ) (store command signature texts reply room sense : List ℕ) → Refused (inquiryOf have store command signature texts reply room sense .answer .number) → inquiryOf have store command signature texts reply room sense ≡ Inquiry.refused (inquiryOf have store command signature texts reply room sense .answer .number) room sense
+  pub of-inquiry-from-intake : (have : ℕ) (store command signature texts reply : List ℕ) (form : ℕ) (room sense : List ℕ) → Refused (inquiryOf have store command signature texts reply form room sense .answer .number) → inquiryOf have store command signature texts reply form room sense ≡ Inquiry.refused form (inquiryOf have store command signature texts reply form room sense .answer .number) room sense
   pub of-roll-of-intakes : (haves stores room rows : List ℕ) → Refused (rollOf haves stores room rows .counted .number) → rollOf haves stores room rows ≡ Received.outcome (record { number = rollOf haves stores room rows .counted .number; blocks = 0; drives = 0 }) room rows
   pub of-feed : (c : Census) (block : List ℕ) → Refused (feed c block .number) → feed c block ≡ Census.answer c (feed c block .number)
 
@@ -110,17 +112,17 @@ pub record RollSized (bytes : List ℕ) (entries : ℕ) : Type 0 where
 
 -- Where no size is wrong, a damaged block is refused with 18 and no status whatever else is asked, and nothing lent changes.
 pub record DamagedIsRefused : Type 0 where
-  pub of-inquiry : (q : Request) (room sense : List ℕ) → wrongSize (q .block) (q .signature) (q .texts) (length sense) ≡ false → damaged (q .block) ≡ true → inquiry q room sense ≡ Inquiry.outcome (record { number = 18; status = noStatus; shown = 1; count = 0 }) room sense
+  pub of-inquiry : (q : Request) (form : ℕ) (room sense : List ℕ) → wrongSize (q .block) (q .signature) (q .texts) (length sense) ≡ false → damaged (q .block) ≡ true → inquiry q form room sense ≡ Inquiry.outcome (record { number = 18; status = noStatus; shown = 1; count = 0 }) room sense
   pub of-write : (block room : List ℕ) → damaged block ≡ true → write block room ≡ Page83.outcome (record { number = 18; count = 0 }) room
   pub of-roll : (bytes room : List ℕ) → RollSized bytes (length room) → SomeDamaged bytes → roll bytes room ≡ Roll.outcome (record { number = 18; blocks = 0; drives = 0 }) room
   pub of-gather : (haves stores room : List ℕ) → wrongRun haves (length stores) ≡ false → SomeDamaged (gathered haves stores) → gatherOf haves stores room ≡ Received.gatherOutcome (Received.given 18 0) room
-  pub of-inquiry-from-intake : (have : ℕ) (store command signature texts reply room sense : List ℕ) → wrongIntake have (length store) ≡ false → wrongSize (blockOf have store) signature texts (length sense) ≡ false → damaged (blockOf have store) ≡ true → inquiryOf have store command signature texts reply room sense ≡ Inquiry.outcome (record { number = 18; status = noStatus; shown = 1; count = 0 }) room sense
+  pub of-inquiry-from-intake : (have : ℕ) (store command signature texts reply : List ℕ) (form : ℕ) (room sense : List ℕ) → wrongIntake have (length store) ≡ false → wrongSize (blockOf have store) signature texts (length sense) ≡ false → damaged (blockOf have store) ≡ true → inquiryOf have store command signature texts reply form room sense ≡ Inquiry.outcome (record { number = 18; status = noStatus; shown = 1; count = 0 }) room sense
   pub of-roll-of-intakes : (haves stores room rows : List ℕ) → wrongRun haves (length stores) ≡ false → RollSized (gathered haves stores) (length rows) → SomeDamaged (gathered haves stores) → rollOf haves stores room rows ≡ Received.outcome (record { number = 18; blocks = 0; drives = 0 }) room rows
   pub of-feed : (c : Census) (block : List ℕ) → closed c ≡ false → damaged block ≡ true → feed c block ≡ Census.answer c 18
 
 -- No reply passes the allocation length.
 abbrev pub WithinAllocation : Type 0
-WithinAllocation = (q : Request) (room sense : List ℕ) → inquiry q room sense .answer .count ≤ allocation (q .command)
+WithinAllocation = (q : Request) (form : ℕ) (room sense : List ℕ) → inquiry q form room sense .answer .count ≤ allocation (q .command)
 
 -- The same request with another allocation length.
 abbrev pub withAllocation : ℕ → List ℕ → List ℕ
@@ -136,7 +138,7 @@ shown q o = part (q .reply) (o .room) (o .answer .shown) (o .answer .count)
 -- A host that cuts a reply again sees what it would have asked for: for the lesser of two allocation lengths the first part is shown
 -- of what is shown for the greater, of a page and of a packet drive's own reply.
 abbrev pub CutAgain : Type 0
-CutAgain = (q : Request) (a b : ℕ) (room sense other-room other-sense : List ℕ) → a ≤ b → b < 0x10000 → inquiry (asking q a) room sense .answer .number ≡ 0 → inquiry (asking q b) other-room other-sense .answer .number ≡ 0 → shown (asking q a) (inquiry (asking q a) room sense) ≡ take a (shown (asking q b) (inquiry (asking q b) other-room other-sense))
+CutAgain = (q : Request) (a b form other-form : ℕ) (room sense other-room other-sense : List ℕ) → a ≤ b → b < 0x10000 → inquiry (asking q a) form room sense .answer .number ≡ 0 → inquiry (asking q b) other-form other-room other-sense .answer .number ≡ 0 → shown (asking q a) (inquiry (asking q a) form room sense) ≡ take a (shown (asking q b) (inquiry (asking q b) other-form other-room other-sense))
 
 -- ## Demand 2: worked cases
 
@@ -150,10 +152,11 @@ pub record Submission : Type 0 where
   pub command : List ℕ
   pub registers : List ℕ
   pub declared : ℕ
+  pub form : ℕ
   pub sense : List ℕ
 
 abbrev pub outcomeOf : Submission → Submit.Outcome
-outcomeOf s = submit (s .record-given) (s .command) (s .registers) (s .declared) (s .sense)
+outcomeOf s = submit (s .record-given) (s .command) (s .registers) (s .declared) (s .form) (s .sense)
 
 abbrev pub numberOf : Submission → ℕ
 numberOf s = outcomeOf s .submitted .taken .number
@@ -200,15 +203,15 @@ OwnFlags = (c : List ℕ) (declared : ℕ) → reset (protocol c) ≡ false → 
 
 -- Completing what an outcome leaves tells the status and the sense data that the order which it answered says, and leaves the empty
 -- record.
-abbrev pub EndsBy : List ℕ → List ℕ → Submit.Outcome → Type 0
-EndsBy left room o =
-    complete (o .submitted .next) left room
-    ≡ Complete.outcome (Complete.answer empty 0 (endStatus (o .submitted .taken .order) left)) (endSense (o .submitted .taken .order) left room)
+abbrev pub EndsBy : List ℕ → ℕ → List ℕ → Submit.Outcome → Type 0
+EndsBy left form room o =
+    complete (o .submitted .next) left form room
+    ≡ Complete.outcome (Complete.answer empty 0 (endStatus (o .submitted .taken .order) left)) (endSense (o .submitted .taken .order) left form room)
 
 -- No order is faked: one that was taken is the order that its command makes, and is completed with its own fields, from every state
 -- of the record.
 abbrev pub CompletedWithItsOwnFields : Type 0
-CompletedWithItsOwnFields = (s : Submission) → numberOf s ≡ 0 → (protocol (s .command) ≡ 15 → ⊥) → (left room : List ℕ) → length left ≡ 11 → 22 ≤ length room → (orderFrom s ≡ orderOf (s .command) (s .declared)) × EndsBy left room (outcomeOf s)
+CompletedWithItsOwnFields = (s : Submission) → numberOf s ≡ 0 → (protocol (s .command) ≡ 15 → ⊥) → (left : List ℕ) (form : ℕ) (room : List ℕ) → length left ≡ 11 → 22 ≤ length room → (orderFrom s ≡ orderOf (s .command) (s .declared)) × EndsBy left form room (outcomeOf s)
 
 -- While an order is pending none is taken.
 abbrev pub NoneTakenWhilePending : Type 0
@@ -217,6 +220,29 @@ NoneTakenWhilePending = (s : Submission) → nothingPending (s .record-given) �
 -- Protocol 15 leaves the record as it was given, in every state, accepted or refused.
 abbrev pub Protocol15KeepsTheRecord : Type 0
 Protocol15KeepsTheRecord = (s : Submission) → protocol (s .command) ≡ 15 → outcomeOf s .submitted .next ≡ s .record-given
+
+-- ## Demand 2: the forms of sense data
+
+-- What one call leaves in its sense room, in the fixed form and in another: with CHECK CONDITION both carry the same, and with every
+-- other status both are the room as it was lent.
+pub record ToldAlike (status : ℕ) (lent left other-left : List ℕ) : Type 0 where
+  pub told : status ≡ checkCondition → inFixed (sensed left) ≡ inDescriptor (sensed other-left)
+  pub untold : (status ≡ checkCondition → ⊥) → (left ≡ lent) × (other-left ≡ lent)
+
+-- For all keys, codes and registers both forms carry the same; and so does what each entry leaves for one and the same call.
+pub record FormsAgree : Type 0 where
+  pub of-sense-data : (key asc ascq : ℕ) (told : Told) → inFixed (fixedSense key asc ascq told) ≡ inDescriptor (descriptorSense key asc ascq told)
+  pub of-inquiry : (q : Request) (form other : ℕ) (room sense : List ℕ) → isFixed form ≡ true → isFixed other ≡ false → ToldAlike (inquiry q form room sense .answer .status) sense (inquiry q form room sense .sense) (inquiry q other room sense .sense)
+  pub of-submit : (p : Pending) (command registers : List ℕ) (declared form other : ℕ) (sense : List ℕ) → isFixed form ≡ true → isFixed other ≡ false → ToldAlike (submit p command registers declared form sense .submitted .taken .status) sense (submit p command registers declared form sense .sense) (submit p command registers declared other sense .sense)
+  pub of-complete : (p : Pending) (registers : List ℕ) (form other : ℕ) (sense : List ℕ) → isFixed form ≡ true → isFixed other ≡ false → ToldAlike (complete p registers form sense .completed .ended .status) sense (complete p registers form sense .sense) (complete p registers other sense .sense)
+  pub of-inquiry-from-intake : (have : ℕ) (store command signature texts reply : List ℕ) (form other : ℕ) (room sense : List ℕ) → isFixed form ≡ true → isFixed other ≡ false → ToldAlike (inquiryOf have store command signature texts reply form room sense .answer .status) sense (inquiryOf have store command signature texts reply form room sense .sense) (inquiryOf have store command signature texts reply other room sense .sense)
+
+-- And nothing else of a call hangs on the form: number, status, what is shown, order, record and room are the same in any two.
+pub record FormChangesOnlySense : Type 0 where
+  pub of-inquiry : (q : Request) (form other : ℕ) (room sense : List ℕ) → (inquiry q form room sense .answer ≡ inquiry q other room sense .answer) × (inquiry q form room sense .room ≡ inquiry q other room sense .room)
+  pub of-submit : (p : Pending) (command registers : List ℕ) (declared form other : ℕ) (sense : List ℕ) → submit p command registers declared form sense .submitted ≡ submit p command registers declared other sense .submitted
+  pub of-complete : (p : Pending) (registers : List ℕ) (form other : ℕ) (sense : List ℕ) → complete p registers form sense .completed ≡ complete p registers other sense .completed
+  pub of-inquiry-from-intake : (have : ℕ) (store command signature texts reply : List ℕ) (form other : ℕ) (room sense : List ℕ) → (inquiryOf have store command signature texts reply form room sense .answer ≡ inquiryOf have store command signature texts reply other room sense .answer) × (inquiryOf have store command signature texts reply form room sense .room ≡ inquiryOf have store command signature texts reply other room sense .room)
 
 -- ## Demand 2: the reader of page 83h
 
@@ -309,7 +335,7 @@ pub record AsksItsName (q : Request) (room sense : List ℕ) : Type 0 where
 
 -- and as INQUIRY, which then accepts, shows them.
 abbrev pub PagesOfInquiry : Type 0
-PagesOfInquiry = (q r : Request) (room sense other-room other-sense : List ℕ) → AsksItsName q room sense → AsksItsName r other-room other-sense → (inquiry q room sense .answer .number ≡ 0) × (inquiry r other-room other-sense .answer .number ≡ 0) × ((shown q (inquiry q room sense) ≡ shown r (inquiry r other-room other-sense)) ↔ (sameDrive (q .block) (r .block) ≡ true))
+PagesOfInquiry = (q r : Request) (form other-form : ℕ) (room sense other-room other-sense : List ℕ) → AsksItsName q room sense → AsksItsName r other-room other-sense → (inquiry q form room sense .answer .number ≡ 0) × (inquiry r other-form other-room other-sense .answer .number ≡ 0) × ((shown q (inquiry q form room sense) ≡ shown r (inquiry r other-form other-room other-sense)) ↔ (sameDrive (q .block) (r .block) ≡ true))
 
 -- ## The intake: a stream in runs
 
@@ -334,7 +360,7 @@ StreamOfRuns = (store : List ℕ) → length store ≡ 512 → Streamed store
 
 -- INQUIRY from an intake is INQUIRY from the block that its stream brings: the first 512 bytes, or none before they are there.
 abbrev pub InquiryFromAStream : Type 0
-InquiryFromAStream = (store : List ℕ) → length store ≡ 512 → (rs : List (List ℕ)) (command signature texts reply room sense : List ℕ) → inquiryOf (runs (begin store) rs .intake .have) (runs (begin store) rs .store) command signature texts reply room sense ≡ inquiry (request command (blockIn (stream rs)) signature texts reply) room sense
+InquiryFromAStream = (store : List ℕ) → length store ≡ 512 → (rs : List (List ℕ)) (command signature texts reply : List ℕ) (form : ℕ) (room sense : List ℕ) → inquiryOf (runs (begin store) rs .intake .have) (runs (begin store) rs .store) command signature texts reply form room sense ≡ inquiry (request command (blockIn (stream rs)) signature texts reply) form room sense
 
 -- And so is the roll of several bays, each with a stream of its own, in room that holds their blocks; refusals too.
 abbrev pub RollOfStreams : Type 0
@@ -389,6 +415,8 @@ pub record Promises : Type 0 where
   pub completed-with-its-own-fields : CompletedWithItsOwnFields
   pub none-taken-while-pending : NoneTakenWhilePending
   pub protocol-15-keeps-the-record : Protocol15KeepsTheRecord
+  pub forms-agree : FormsAgree
+  pub form-changes-only-sense : FormChangesOnlySense
   pub reads-back : ReadsBack
   pub accepted-is-written : AcceptedIsWritten
   pub same-drive-by-words : SameDriveByWords
