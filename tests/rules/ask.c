@@ -126,10 +126,11 @@ static void empty(void)
 static void inquiry(void)
 {
     piece command = next_piece(), block = next_piece(), signature = next_piece(), texts = next_piece(), reply = next_piece();
+    unsigned long form = next_number();
     piece room = next_piece(), sense = next_piece();
     piongseut_inquiry_answer answer =
         piongseut_inquiry(command.bytes, command.size, block.bytes, block.size, signature.bytes, signature.size, texts.bytes,
-                          texts.size, reply.bytes, reply.size, room.bytes, room.size, sense.bytes, sense.size);
+                          texts.size, reply.bytes, reply.size, (uint8_t)form, room.bytes, room.size, sense.bytes, sense.size);
     say("number", answer.number);
     say("status", answer.status);
     say("shown", answer.shown);
@@ -147,10 +148,10 @@ static void submit(void)
 {
     piongseut_record record = next_record();
     piece command = next_piece(), registers = next_piece();
-    unsigned long declared = next_number();
+    unsigned long declared = next_number(), form = next_number();
     piece sense = next_piece();
     piongseut_submit_answer answer = piongseut_submit(&record, command.bytes, command.size, registers.bytes, registers.size,
-                                                      (uint32_t)declared, sense.bytes, sense.size);
+                                                      (uint32_t)declared, (uint8_t)form, sense.bytes, sense.size);
     say("number", answer.number);
     say("status", answer.status);
     say_order("order", answer.order);
@@ -163,8 +164,11 @@ static void submit(void)
 static void complete(void)
 {
     piongseut_record record = next_record();
-    piece registers = next_piece(), sense = next_piece();
-    piongseut_complete_answer answer = piongseut_complete(&record, registers.bytes, registers.size, sense.bytes, sense.size);
+    piece registers = next_piece();
+    unsigned long form = next_number();
+    piece sense = next_piece();
+    piongseut_complete_answer answer =
+        piongseut_complete(&record, registers.bytes, registers.size, (uint8_t)form, sense.bytes, sense.size);
     say("number", answer.number);
     say("status", answer.status);
     say_record(record);

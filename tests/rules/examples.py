@@ -12,7 +12,7 @@ import sys
 FILL = 0xEE
 ROW_FILL = 0xEEEE
 START = {"block": "512 zero", "signature": "20 zero", "texts": "28 zero", "registers": "11 zero", "reply": "none", "declared": "0",
-         "room": "600", "sense room": "24", "rows": "64", "run": "none"}
+         "form": "0", "room": "600", "sense room": "24", "rows": "64", "run": "none"}
 OTHER_NAMES = ("command", "page", "blocks", "input", "haves", "stores", "have", "census")
 PROGRAMS = ("rollcall", "census")
 
@@ -145,12 +145,20 @@ def read_page(text):
 
 
 def read_table(text):
-    """The page's own table of refusals: status and sense bytes of each number."""
+    """The page's own table of refusals: status, key, ASC and ASCQ of each number."""
     rows = {}
     for number, status, codes in re.findall(r"^\| (\d+) \| [^|]*\| (..)h \| (?:(.. .. ..) )?\|$", text, re.M):
-        key = bytes.fromhex(codes)
-        rows[int(number)] = (int(status, 16), b"\x72" + key + bytes(4) if key else b"")
+        rows[int(number)] = (int(status, 16), bytes.fromhex(codes))
     return rows
+
+
+def coded(codes, form):
+    """The sense data of section 10 that tell key, ASC and ASCQ alone; none where a row has no key."""
+    if not codes:
+        return b""
+    if form == 1:
+        return b"\x70\x00" + codes[:1] + bytes(4) + b"\x0A" + bytes(4) + codes[1:] + bytes(4)
+    return b"\x72" + codes + bytes(4)
 
 
 # ---- Trying a step
@@ -226,6 +234,9 @@ class Trial:
     def sense(self):
         return filled(int(self.lent["sense room"]))
 
+    def form(self):
+        return read_number(self.lent["form"])
+
     def step(self, step):
         self.lent.update(step.lent)
         if "have" in step.lent:
@@ -256,9 +267,9 @@ class Trial:
     def told(self, named, before, got):
         """A refusal has the status and sense bytes of its row; else no sense byte changes but those that are named."""
         if got["number"]:
-            status, sense = self.table[got["number"]]
+            status, codes = self.table[got["number"]]
             self.want("status of section 3", status, got["status"])
-            self.front("sense of section 3", before, sense, got["sense"])
+            self.front("sense of section 3", before, coded(codes, self.form()), got["sense"])
         elif "sense" not in named:
             self.want("sense room", before, got["sense"])
 
@@ -266,7 +277,7 @@ class Trial:
 
     def inquiry(self):
         before, sense, reply = self.room(), self.sense(), self.bytes("reply")
-        got = self.board.call("inquiry", *map(self.bytes, ("command", "block", "signature", "texts")), reply, before, sense)
+        got = self.board.call("inquiry", *map(self.bytes, ("command", "block", "signature", "texts")), reply, self.form(), before, sense)
         part, count, written = (reply, got["count"], 0) if got["shown"] == 0 else (got["room"], got["count"], got["count"])
         names = {0: "reply", 1: "room"}
         def always(named):
@@ -288,7 +299,7 @@ class Trial:
 
     def submit(self):
         sense, before = self.sense(), self.record
-        got = self.board.call("submit", before, self.bytes("command"), self.bytes("registers"), int(self.lent["declared"]), sense)
+        got = self.board.call("submit", before, self.bytes("command"), self.bytes("registers"), int(self.lent["declared"]), self.form(), sense)
         self.record = got["record"]
         def always(named):
             self.told(named, sense, got)
@@ -300,7 +311,7 @@ class Trial:
 
     def complete(self):
         sense, before = self.sense(), self.record
-        got = self.board.call("complete", before, self.bytes("registers"), sense)
+        got = self.board.call("complete", before, self.bytes("registers"), self.form(), sense)
         self.record = got["record"]
         def always(named):
             self.told(named, sense, got)
