@@ -1,7 +1,8 @@
-//! Completion of an order (RULES 9), and sense data of 22 bytes (RULES 10).
+//! Completion of an order (RULES 9).
 
 use crate::order::Record;
-use crate::{fault, lent, refusal};
+use crate::sense::{stated, write_refusal, write_report, Report};
+use crate::{fault, lent, order, refusal, sense};
 
 /// The answer to a completion.
 #[derive(Clone, Copy, Debug, PartialEq, Eq)]
@@ -11,29 +12,42 @@ pub struct Ended {
 }
 
 /// Completes the pending order; the record is empty then.
-pub fn complete(record: &mut Record, registers: &[u8], sense: &mut [u8]) -> Ended {
-    if !lent::registers_size_is_right(registers) || !lent::sense_size_is_right(sense) {
-        return refuse(refusal::SIZE, sense);
+pub fn complete(record: &mut Record, registers: &[u8], form: u8, sense: &mut [u8]) -> Ended {
+    if !lent::registers_size_is_right(registers) || !lent::sense_size_is_right(form, sense) {
+        return refuse(refusal::SIZE, form, sense);
     }
     // There is nothing to complete: 15 (RULES 3).
     if !record.is_pending() || fault::planted("complete-refuses-all") {
-        return refuse(refusal::NOTHING_PENDING, sense);
+        return refuse(refusal::NOTHING_PENDING, form, sense);
     }
-    let ended = end(record, registers, sense);
+    let ended = end(record, registers, form_for(record, form), sense);
     *record = Record::default();
+    if fault::planted("form-changes-the-status") && form == sense::FIXED {
+        return accept(refusal::GOOD);
+    }
     ended
+}
+
+/// The form that this call states. One was stated with the command too, which
+/// counts here only for planted faults.
+fn form_for(record: &Record, form: u8) -> u8 {
+    if fault::planted("form-kept-in-the-record") || fault::planted("form-of-the-last-order") {
+        return order::kept_form(record);
+    }
+    stated(form, "form-not-asked-by-complete")
 }
 
 /// An error of the drive is told whether or not the host asked for the
 /// registers; without one they are told where it did, by CK_COND (RULES 9).
-fn end(record: &Record, registers: &[u8], sense: &mut [u8]) -> Ended {
+fn end(record: &Record, registers: &[u8], form: u8, sense: &mut [u8]) -> Ended {
     let extend = record.order.extend != 0;
+    let report = Report { extend, registers };
     if has_error(registers) {
-        write_descriptor_sense([0x0B, 0x00, 0x00], extend, registers, sense);
+        write_report([0x0B, 0x00, 0x00], report, form, sense);
         return accept(refusal::CHECK_CONDITION);
     }
     if record.order.ck_cond != 0 {
-        write_descriptor_sense([0x01, 0x00, 0x1D], extend, registers, sense);
+        write_report([0x01, 0x00, 0x1D], report, form, sense);
         return accept(refusal::CHECK_CONDITION);
     }
     accept(refusal::GOOD)
@@ -53,34 +67,10 @@ fn accept(status: u8) -> Ended {
     }
 }
 
-fn refuse(number: u8, sense: &mut [u8]) -> Ended {
-    refusal::write_sense(number, sense);
+fn refuse(number: u8, form: u8, sense: &mut [u8]) -> Ended {
+    write_refusal(number, form, sense);
     Ended {
         number,
         status: refusal::status(number),
-    }
-}
-
-/// A report: eight head bytes, then a descriptor of 14 bytes with EXTEND and
-/// the registers (RULES 10).
-pub fn write_descriptor_sense(
-    key_asc_ascq: [u8; 3],
-    extend: bool,
-    registers: &[u8],
-    sense: &mut [u8],
-) {
-    if fault::planted("complete-writes-nothing") {
-        return;
-    }
-    let [key, asc, ascq] = key_asc_ascq;
-    sense[..8].copy_from_slice(&[0x72, key, asc, ascq, 0x00, 0x00, 0x00, 0x0E]);
-    sense[8..11].copy_from_slice(&[0x09, 0x0C, u8::from(extend)]);
-    // They are lent in the order in which they stand here.
-    sense[11..22].copy_from_slice(registers);
-    if !extend && !fault::planted("upper-bytes-without-extend") {
-        sense[12] = 0x00; // count high
-        sense[14] = 0x00; // LBA low high
-        sense[16] = 0x00; // LBA mid high
-        sense[18] = 0x00; // LBA high high
     }
 }

@@ -2,6 +2,7 @@
 
 use crate::identify::is_damaged;
 use crate::packet::is_packet_drive;
+use crate::sense::{stated, write_refusal};
 use crate::{fault, lent, packet, page83, pages, refusal};
 
 /// `shown` where the drive's own reply is shown.
@@ -42,20 +43,21 @@ pub fn inquiry(
     signature: &[u8],
     texts: &[u8],
     reply: &[u8],
+    form: u8,
     room: &mut [u8],
     sense: &mut [u8],
 ) -> Inquiry {
     if fault::planted("damage-before-sizes") && is_damaged(block) {
-        return refuse(refusal::DAMAGED, sense);
+        return refuse(refusal::DAMAGED, form, sense);
     }
-    if !sizes_are_right(block, signature, texts, sense) {
-        return refuse(refusal::SIZE, sense);
+    if !sizes_are_right(block, signature, texts) || !lent::sense_size_is_right(form, sense) {
+        return refuse(refusal::SIZE, form, sense);
     }
     if block_is_refused(command, block, signature) {
-        return refuse(refusal::DAMAGED, sense);
+        return refuse(refusal::DAMAGED, form, sense);
     }
     if fault::planted("inquiry-refuses-all") {
-        return refuse(refusal::FIELD, sense);
+        return refuse(refusal::FIELD, form, sense);
     }
     let block = the_drive_answered_for(block);
     let answer = read_command(command).and_then(|asked| {
@@ -66,9 +68,9 @@ pub fn inquiry(
         }
     });
     match answer {
-        Err(number) => refuse(number, sense),
+        Err(number) => refuse(number, form, sense),
         Ok(Answer::Reply(count)) => accept(SHOWS_REPLY, count),
-        Ok(Answer::Page(bytes)) => write(&bytes, room, sense),
+        Ok(Answer::Page(bytes)) => write(&bytes, room, form, sense),
     }
 }
 
@@ -92,11 +94,10 @@ fn block_is_refused(command: &[u8], block: &[u8], signature: &[u8]) -> bool {
 }
 
 /// The reply and the output room may have any size (RULES 1).
-fn sizes_are_right(block: &[u8], signature: &[u8], texts: &[u8], sense: &[u8]) -> bool {
+fn sizes_are_right(block: &[u8], signature: &[u8], texts: &[u8]) -> bool {
     lent::block_size_is_right(block)
         && lent::signature_size_is_right(signature)
         && lent::texts_size_is_right(texts)
-        && lent::sense_size_is_right(sense)
 }
 
 /// An opcode of another command is told before a missing byte, so a command
@@ -195,10 +196,10 @@ fn cut(mut page: Vec<u8>, asked: &Asked) -> Answer {
 
 /// 8 where these bytes do not fit; else they are written, and the room behind
 /// them stays (RULES 4).
-fn write(bytes: &[u8], room: &mut [u8], sense: &mut [u8]) -> Inquiry {
+fn write(bytes: &[u8], room: &mut [u8], form: u8, sense: &mut [u8]) -> Inquiry {
     let whole_page_wanted = fault::planted("room-for-the-whole-page") && room.len() < 572;
     if room.len() < bytes.len() || whole_page_wanted {
-        return refuse(refusal::ROOM, sense);
+        return refuse(refusal::ROOM, form, sense);
     }
     if fault::planted("inquiry-writes-nothing") {
         return accept(SHOWS_ROOM, bytes.len());
@@ -217,8 +218,9 @@ fn accept(shown: u8, count: usize) -> Inquiry {
 }
 
 /// A refusal shows none of the room's bytes (RULES 2).
-fn refuse(number: u8, sense: &mut [u8]) -> Inquiry {
-    refusal::write_sense(number, sense);
+fn refuse(number: u8, form: u8, sense: &mut [u8]) -> Inquiry {
+    let form = stated(form, "form-not-asked-by-inquiry");
+    write_refusal(number, form, sense);
     Inquiry {
         number,
         status: refusal::status(number),

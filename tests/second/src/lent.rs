@@ -1,6 +1,8 @@
 //! The sizes of what the caller lends (RULES 1). They are checked before all
 //! else (RULES 3).
 
+use crate::{fault, sense};
+
 /// No bytes stand for a drive that gave no block.
 pub fn block_size_is_right(block: &[u8]) -> bool {
     block.len() == 512 || block.is_empty()
@@ -15,8 +17,15 @@ pub fn texts_size_is_right(texts: &[u8]) -> bool {
     texts.len() == 28
 }
 
-/// It has to take the longer of the two kinds of sense data.
-pub fn sense_size_is_right(sense: &[u8]) -> bool {
+/// It has to take the longest sense data there is, whatever form is stated;
+/// and no number of a form is a wrong one.
+pub fn sense_size_is_right(form: u8, sense: &[u8]) -> bool {
+    if fault::planted("form-of-another-number-refused") && form > sense::DESCRIPTOR {
+        return false;
+    }
+    if fault::planted("fixed-takes-room-of-18") && form == sense::FIXED {
+        return sense.len() >= 18;
+    }
     sense.len() >= 22
 }
 

@@ -20,6 +20,7 @@ pub mod page83;
 pub mod pages;
 pub mod refusal;
 pub mod roll;
+pub mod sense;
 
 pub use census::{census_empty, census_feed, Census, Fed};
 pub use completion::{complete, Ended};

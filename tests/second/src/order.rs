@@ -1,7 +1,8 @@
 //! Pass-through orders, of the 12-byte and the 16-byte command (RULES 8).
 
-use crate::{completion, fault, lent, refusal};
-use std::sync::atomic::{AtomicBool, Ordering};
+use crate::sense::{stated, write_refusal, write_report, Report};
+use crate::{fault, lent, refusal};
+use std::sync::atomic::{AtomicBool, AtomicU8, Ordering};
 
 /// The directions of an order.
 pub const NO_DATA: u8 = 0;
@@ -76,38 +77,39 @@ pub fn submit(
     command: &[u8],
     registers: &[u8],
     declared: u32,
+    form: u8,
     sense: &mut [u8],
 ) -> Taken {
-    if !lent::registers_size_is_right(registers) || !lent::sense_size_is_right(sense) {
-        return refuse(refusal::SIZE, sense);
+    if !lent::registers_size_is_right(registers) || !lent::sense_size_is_right(form, sense) {
+        return refuse(refusal::SIZE, form, sense);
     }
     if fault::planted("submit-refuses-all") {
-        return refuse(refusal::FIELD, sense);
+        return refuse(refusal::FIELD, form, sense);
     }
     if fault::planted("busy-before-protocol") && record.is_pending() {
-        return refuse(refusal::PENDING, sense);
+        return refuse(refusal::PENDING, form, sense);
     }
     let fields = match read_command(command).and_then(check_command) {
         Ok(fields) => fields,
-        Err(number) => return refuse(number, sense),
+        Err(number) => return refuse(number, form, sense),
     };
     if fields.protocol == 15 {
         if fault::planted("record-cleared-by-protocol-15") {
             *record = Record::default();
         }
-        return return_response(registers, sense);
+        return return_response(registers, form, sense);
     }
     if record.is_pending() {
-        return refuse(refusal::PENDING, sense);
+        return refuse(refusal::PENDING, form, sense);
     }
     match make_order(&fields, declared) {
-        Ok(order) => fill(record, order),
-        Err(number) => refuse(number, sense),
+        Ok(order) => fill(record, order, form),
+        Err(number) => refuse(number, form, sense),
     }
 }
 
 /// Puts an accepted order into the record.
-fn fill(record: &mut Record, order: Order) -> Taken {
+fn fill(record: &mut Record, order: Order, form: u8) -> Taken {
     if fault::planted("first-order-only") && is_a_later_one() {
         *record = Record {
             state: 1,
@@ -118,8 +120,30 @@ fn fill(record: &mut Record, order: Order) -> Taken {
     if !fault::planted("submit-writes-nothing") {
         *record = Record { state: 1, order };
     }
+    keep_form(record, form);
     take(order)
 }
+
+/// For planted faults: what an order's completion is to tell is not known yet,
+/// so its form is nobody's to keep (RULES 9).
+fn keep_form(record: &mut Record, form: u8) {
+    if fault::planted("form-kept-in-the-record") {
+        record.state |= u32::from(form) << 8;
+    }
+    if fault::planted("form-of-the-last-order") {
+        LAST_FORM.store(form, Ordering::Relaxed);
+    }
+}
+
+/// The form that such a fault completes an order in.
+pub fn kept_form(record: &Record) -> u8 {
+    if fault::planted("form-of-the-last-order") {
+        return LAST_FORM.load(Ordering::Relaxed);
+    }
+    record.state.to_be_bytes()[2]
+}
+
+static LAST_FORM: AtomicU8 = AtomicU8::new(0);
 
 /// Whether an order was taken before, for a planted fault.
 fn is_a_later_one() -> bool {
@@ -137,8 +161,9 @@ fn take(order: Order) -> Taken {
 }
 
 /// A refusal has an order of zeros (RULES 2).
-fn refuse(number: u8, sense: &mut [u8]) -> Taken {
-    refusal::write_sense(number, sense);
+fn refuse(number: u8, form: u8, sense: &mut [u8]) -> Taken {
+    let form = stated(form, "form-not-asked-by-submit");
+    write_refusal(number, form, sense);
     Taken {
         number,
         status: refusal::status(number),
@@ -148,8 +173,13 @@ fn refuse(number: u8, sense: &mut [u8]) -> Taken {
 
 /// Protocol 15 only tells the registers that were lent with the command, and
 /// asks nothing of their error bits or of the record (RULES 9).
-fn return_response(registers: &[u8], sense: &mut [u8]) -> Taken {
-    completion::write_descriptor_sense([0x01, 0x00, 0x1D], false, registers, sense);
+fn return_response(registers: &[u8], form: u8, sense: &mut [u8]) -> Taken {
+    let report = Report {
+        extend: false,
+        registers,
+    };
+    let form = stated(form, "form-not-asked-by-protocol-15");
+    write_report([0x01, 0x00, 0x1D], report, form, sense);
     Taken {
         number: refusal::ACCEPTED,
         status: refusal::CHECK_CONDITION,

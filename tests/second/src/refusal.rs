@@ -1,5 +1,4 @@
-//! The numbers that come back (RULES 2), the table of refusals (RULES 3) and a
-//! refusal's sense data (RULES 10).
+//! The numbers that come back (RULES 2) and the table of refusals (RULES 3).
 
 use crate::fault;
 
@@ -72,12 +71,5 @@ pub fn key_asc_ascq(number: u8) -> Option<[u8; 3]> {
         ABOVE_DECLARED => Some([0x05, 0x24, 0x00]),
         DAMAGED if fault::planted("damage-told-in-sense") => Some([0x0B, 0x00, 0x00]),
         _ => None,
-    }
-}
-
-/// A refusal without a key has nothing to tell the host.
-pub fn write_sense(number: u8, sense: &mut [u8]) {
-    if let Some([key, asc, ascq]) = key_asc_ascq(number) {
-        sense[..8].copy_from_slice(&[0x72, key, asc, ascq, 0x00, 0x00, 0x00, 0x00]);
     }
 }

@@ -68,10 +68,11 @@ fn orders_and_completion_take_all() {
             pass.refused(taken.number);
         }
         let before = record;
-        let (ended, sense) = end(&mut record, &pass.registers, pass.sense);
+        let form = numbers.byte();
+        let (ended, sense) = end_in_form(form, &mut record, &pass.registers, pass.sense);
         if ended.number != 0 {
             assert_eq!(record, before);
-            check_refusal_sense(ended.number, &sense);
+            check_refusal_sense(ended.number, form, &sense);
         }
     }
 }

@@ -135,6 +135,7 @@ fn inquiry_18_tells_nothing() {
         &PLAIN,
         &texts(),
         &[],
+        0,
         &mut room,
         &mut sense,
     );

@@ -194,11 +194,7 @@ fn protocol_15() {
         assert_eq!((taken.number, taken.status), (0, 0x02));
         assert_eq!(taken.order, Order::default());
         assert_eq!(record, pass.record);
-        assert_eq!(
-            &sense[..22],
-            &descriptor([0x01, 0x00, 0x1D], 0, RESPONSE_28)[..]
-        );
-        assert!(is_filled(&sense[22..]));
+        check_sense(&descriptor([0x01, 0x00, 0x1D], 0, RESPONSE_28), &sense);
     }
 }
 
@@ -215,8 +211,7 @@ fn check_end(record: Record, registers: [u8; 11], status: u8, wanted: &[u8]) {
     let mut record = record;
     let (ended, sense) = end(&mut record, &registers, 30);
     assert_eq!(ended, Ended { number: 0, status });
-    assert_eq!(&sense[..wanted.len()], wanted);
-    assert!(is_filled(&sense[wanted.len()..]));
+    check_sense(wanted, &sense);
     assert_eq!(record, Record::default());
 }
 

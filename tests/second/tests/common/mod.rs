@@ -7,6 +7,9 @@ use second::{complete, inquiry, submit, Ended, Inquiry, Order, Record, Taken};
 /// Fills lent room before a call, so that a written byte is seen.
 pub const FILL: u8 = 0xA5;
 
+/// None stated, fixed, descriptor, and numbers that state no form.
+pub const FORMS: [u8; 6] = [0, 1, 2, 3, 0x81, 0xFF];
+
 pub const BLOCK_0_NAME: [u8; 8] = [0x00, 0x50, 0x00, 0xC5, 0x34, 0x12, 0x78, 0x56];
 
 /// The bytes of word 87 in a block that has a name.
@@ -55,7 +58,8 @@ pub fn text_block() -> [u8; 512] {
     block
 }
 
-/// The pieces lent to INQUIRY. `room` and `sense` are sizes.
+/// The pieces lent to INQUIRY. `room` and `sense` are sizes. The checks are
+/// made in each form, whatever `form` is.
 #[derive(Clone)]
 pub struct Ask {
     pub command: Vec<u8>,
@@ -63,6 +67,7 @@ pub struct Ask {
     pub signature: Vec<u8>,
     pub texts: Vec<u8>,
     pub reply: Vec<u8>,
+    pub form: u8,
     pub room: usize,
     pub sense: usize,
 }
@@ -76,6 +81,7 @@ impl Ask {
             signature: PLAIN.to_vec(),
             texts: texts().to_vec(),
             reply: Vec::new(),
+            form: 0,
             room: 600,
             sense: 30,
         }
@@ -102,6 +108,15 @@ impl Ask {
         self
     }
 
+    pub fn form(mut self, form: u8) -> Ask {
+        self.form = form;
+        self
+    }
+
+    fn in_each_form(&self) -> impl Iterator<Item = Ask> + '_ {
+        FORMS.iter().map(|&form| self.clone().form(form))
+    }
+
     pub fn room(mut self, room: usize) -> Ask {
         self.room = room;
         self
@@ -121,6 +136,7 @@ impl Ask {
             &self.signature,
             &self.texts,
             &self.reply,
+            self.form,
             &mut room,
             &mut sense,
         );
@@ -129,55 +145,63 @@ impl Ask {
 
     /// Checks a GOOD answer that shows exactly these bytes of the output room.
     pub fn writes(&self, bytes: &[u8]) {
-        let (answer, room, sense) = self.run();
         let wanted = Inquiry {
             number: 0,
             status: 0x00,
             shown: 1,
             count: bytes.len(),
         };
-        assert_eq!(answer, wanted);
-        assert_eq!(&room[..bytes.len()], bytes);
-        assert!(is_filled(&room[bytes.len()..]), "room past n is touched");
-        assert!(is_filled(&sense), "sense is touched");
+        for ask in self.in_each_form() {
+            let (answer, room, sense) = ask.run();
+            assert_eq!(answer, wanted);
+            assert_eq!(&room[..bytes.len()], bytes);
+            assert!(is_filled(&room[bytes.len()..]), "room past n is touched");
+            assert!(is_filled(&sense), "sense is touched");
+        }
     }
 
     /// Checks a GOOD answer that shows so many bytes of the drive's reply.
     pub fn passes(&self, count: usize) {
-        let (answer, room, sense) = self.run();
         let wanted = Inquiry {
             number: 0,
             status: 0x00,
             shown: 0,
             count,
         };
-        assert_eq!(answer, wanted);
-        assert!(is_filled(&room), "room is touched");
-        assert!(is_filled(&sense), "sense is touched");
+        for ask in self.in_each_form() {
+            let (answer, room, sense) = ask.run();
+            assert_eq!(answer, wanted);
+            assert!(is_filled(&room), "room is touched");
+            assert!(is_filled(&sense), "sense is touched");
+        }
     }
 
     /// Checks a refusal: number, status, sense, and nothing else touched.
     pub fn refused(&self, number: u8) {
-        let (answer, room, sense) = self.run();
         let wanted = Inquiry {
             number,
             status: row(number).0,
             shown: 1,
             count: 0,
         };
-        assert_eq!(answer, wanted);
-        assert!(is_filled(&room), "room is touched");
-        check_refusal_sense(number, &sense);
+        for ask in self.in_each_form() {
+            let (answer, room, sense) = ask.run();
+            assert_eq!(answer, wanted);
+            assert!(is_filled(&room), "room is touched");
+            check_refusal_sense(number, ask.form, &sense);
+        }
     }
 }
 
-/// The pieces lent to a pass-through command. `sense` is a size.
+/// The pieces lent to a pass-through command. `sense` is a size. The checks
+/// are made in each form, whatever `form` is.
 #[derive(Clone)]
 pub struct Pass {
     pub record: Record,
     pub command: Vec<u8>,
     pub registers: Vec<u8>,
     pub declared: u32,
+    pub form: u8,
     pub sense: usize,
 }
 
@@ -189,6 +213,7 @@ impl Pass {
             command: command.to_vec(),
             registers: REGISTERS.to_vec(),
             declared: u32::MAX,
+            form: 0,
             sense: 30,
         }
     }
@@ -196,6 +221,15 @@ impl Pass {
     pub fn declared(mut self, declared: u32) -> Pass {
         self.declared = declared;
         self
+    }
+
+    pub fn form(mut self, form: u8) -> Pass {
+        self.form = form;
+        self
+    }
+
+    pub fn in_each_form(&self) -> impl Iterator<Item = Pass> + '_ {
+        FORMS.iter().map(|&form| self.clone().form(form))
     }
 
     pub fn pending(mut self) -> Pass {
@@ -226,6 +260,7 @@ impl Pass {
             &self.command,
             &self.registers,
             self.declared,
+            self.form,
             &mut sense,
         );
         (taken, record, sense)
@@ -233,37 +268,47 @@ impl Pass {
 
     /// The order taken; checks that the record holds it and sense is untouched.
     pub fn order(&self) -> Order {
-        let (taken, record, sense) = self.run();
-        assert_eq!((taken.number, taken.status), (0, 0xFF));
-        assert_eq!(
-            record,
-            Record {
-                state: 1,
-                order: taken.order
-            }
-        );
-        assert!(is_filled(&sense), "sense is touched");
-        taken.order
+        let (first, wanted, _) = self.run();
+        assert_eq!((wanted.state, wanted.order), (1, first.order));
+        for pass in self.in_each_form() {
+            let (taken, record, sense) = pass.run();
+            assert_eq!((taken.number, taken.status), (0, 0xFF));
+            assert_eq!((taken, record), (first, wanted));
+            assert!(is_filled(&sense), "sense is touched");
+        }
+        first.order
     }
 
     /// Checks a refusal: number, status, sense, zero order, record unchanged.
     pub fn refused(&self, number: u8) {
-        let (taken, record, sense) = self.run();
         let wanted = Taken {
             number,
             status: row(number).0,
             order: Order::default(),
         };
-        assert_eq!(taken, wanted);
-        assert_eq!(record, self.record);
-        check_refusal_sense(number, &sense);
+        for pass in self.in_each_form() {
+            let (taken, record, sense) = pass.run();
+            assert_eq!(taken, wanted);
+            assert_eq!(record, self.record);
+            check_refusal_sense(number, pass.form, &sense);
+        }
     }
 }
 
-/// Completes with sense room of the given size.
+/// Completes with sense room of the given size, and states no form.
 pub fn end(record: &mut Record, registers: &[u8], size: usize) -> (Ended, Vec<u8>) {
+    end_in_form(0, record, registers, size)
+}
+
+/// Completes with sense room of the given size.
+pub fn end_in_form(
+    form: u8,
+    record: &mut Record,
+    registers: &[u8],
+    size: usize,
+) -> (Ended, Vec<u8>) {
     let mut sense = vec![FILL; size];
-    let ended = complete(record, registers, &mut sense);
+    let ended = complete(record, registers, form, &mut sense);
     (ended, sense)
 }
 
@@ -319,14 +364,24 @@ pub fn row(number: u8) -> (u8, Option<[u8; 3]>) {
 }
 
 /// The sense room after a refusal (RULES 10).
-pub fn check_refusal_sense(number: u8, sense: &[u8]) {
-    match row(number).1 {
-        None => assert!(is_filled(sense), "sense is touched"),
-        Some([key, asc, ascq]) => {
-            assert_eq!(&sense[..8], &[0x72, key, asc, ascq, 0, 0, 0, 0]);
-            assert!(is_filled(&sense[8..]), "sense past 8 is touched");
-        }
+pub fn check_refusal_sense(number: u8, form: u8, sense: &[u8]) {
+    match (row(number).1, form) {
+        (None, _) => check_sense(&[], sense),
+        (Some([key, asc, ascq]), 1) => check_sense(
+            &[
+                0x70, 0, key, 0, 0, 0, 0, 0x0A, 0, 0, 0, 0, asc, ascq, 0, 0, 0, 0,
+            ],
+            sense,
+        ),
+        (Some([key, asc, ascq]), _) => check_sense(&[0x72, key, asc, ascq, 0, 0, 0, 0], sense),
     }
+}
+
+/// That the sense room begins with these bytes and is untouched behind them.
+pub fn check_sense(wanted: &[u8], sense: &[u8]) {
+    let (written, behind) = sense.split_at(wanted.len());
+    assert_eq!(written, wanted);
+    assert!(is_filled(behind), "sense past its bytes is touched");
 }
 
 /// A small generator of repeatable numbers, for tests over many inputs.

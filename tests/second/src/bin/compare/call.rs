@@ -205,7 +205,8 @@ impl Call {
     fn answer_inquiry(&self, record: &Record, out: &mut Vec<u8>) -> u8 {
         let p = &self.pieces;
         let (mut room, mut sense) = (p[5].clone(), p[6].clone());
-        let answer = second::inquiry(&p[0], &p[1], &p[2], &p[3], &p[4], &mut room, &mut sense);
+        let lent = (&mut room[..], &mut sense[..]);
+        let answer = second::inquiry(&p[0], &p[1], &p[2], &p[3], &p[4], 0, lent.0, lent.1);
         put_inquiry(&answer, out);
         put_record(record, out);
         p[..5].iter().for_each(|piece| out.extend(piece));
@@ -217,7 +218,7 @@ impl Call {
     fn answer_submit(&self, record: &mut Record, out: &mut Vec<u8>) -> u8 {
         let p = &self.pieces;
         let mut sense = p[2].clone();
-        let taken = second::submit(record, &p[0], &p[1], self.declared, &mut sense);
+        let taken = second::submit(record, &p[0], &p[1], self.declared, 0, &mut sense);
         out.extend([taken.number, taken.status]);
         put_order(&taken.order, out);
         put_record(record, out);
@@ -230,7 +231,7 @@ impl Call {
     fn answer_complete(&self, record: &mut Record, out: &mut Vec<u8>) -> u8 {
         let p = &self.pieces;
         let mut sense = p[1].clone();
-        let ended = second::complete(record, &p[0], &mut sense);
+        let ended = second::complete(record, &p[0], 0, &mut sense);
         out.extend([ended.number, ended.status]);
         put_record(record, out);
         out.extend(&p[0]);
@@ -287,7 +288,8 @@ impl Call {
         let block = second::block_size(self.intake, p[0].len());
         let answer = if block.number == 0 {
             let block = &p[0][..block.count];
-            second::inquiry(&p[1], block, &p[2], &p[3], &p[4], &mut room, &mut sense)
+            let lent = (&mut room[..], &mut sense[..]);
+            second::inquiry(&p[1], block, &p[2], &p[3], &p[4], 0, lent.0, lent.1)
         } else {
             not_asked(block.number)
         };

@@ -66,7 +66,7 @@ fn shown(board: &mut Board, call: &mut Call, length: u16) -> Option<Vec<u8>> {
     let lent = &call.pieces;
     let (mut room, mut sense) = (lent[5].clone(), lent[6].clone());
     let answer = second::inquiry(
-        &lent[0], &lent[1], &lent[2], &lent[3], &lent[4], &mut room, &mut sense,
+        &lent[0], &lent[1], &lent[2], &lent[3], &lent[4], 0, &mut room, &mut sense,
     );
     let from = if answer.shown == 0 { &lent[4] } else { &room };
     (answer.number == 0).then(|| from[..answer.count].to_vec())
