@@ -5,7 +5,7 @@
  *
  * A batch:   u32 bytes that follow, then calls.
  * A call:    u32 bytes that follow; u8 function (bit 7: with the record that the last call left, not the one sent);
- *            u32 declared; the record, 28 bytes; the intake, 4 bytes; u8 number of pieces; a piece: u32 size, its bytes.
+ *            u32 declared; u8 form; the record, 28 bytes; the intake, 4 bytes; u8 number of pieces; a piece: u32 size, its bytes.
  * An answer: u32 bytes that follow; u8 function; u8 guard (0: untouched); the fields of what came back, in the header's order;
  *            the record, 28 bytes; the bytes of every piece, the const ones too.
  * INTAKE_INQUIRY and INTAKE_ROLL are two functions each, one after the other, as a C program uses them: the second is lent what
@@ -46,6 +46,7 @@ static struct {
 } piece[PIECES];
 
 static piongseut_intake intake;
+static uint8_t form;
 static const uint8_t *in;
 static const uint8_t *in_end;
 static uint8_t *out;
@@ -258,14 +259,14 @@ static void tell_stack(void)
 static void call_inquiry(void)
 {
     piongseut_inquiry_answer answer;
-    CALL(INQUIRY, answer = piongseut_inquiry(LENT(0), LENT(1), LENT(2), LENT(3), LENT(4), LENT(5), LENT(6)));
+    CALL(INQUIRY, answer = piongseut_inquiry(LENT(0), LENT(1), LENT(2), LENT(3), LENT(4), form, LENT(5), LENT(6)));
     put_inquiry(answer);
 }
 
 static void call_submit(uint32_t declared)
 {
     piongseut_submit_answer answer;
-    CALL(SUBMIT, answer = piongseut_submit(&kept.record, LENT(0), LENT(1), declared, LENT(2)));
+    CALL(SUBMIT, answer = piongseut_submit(&kept.record, LENT(0), LENT(1), declared, form, LENT(2)));
     put(answer.number, 1);
     put(answer.status, 1);
     put_order(&answer.order);
@@ -274,7 +275,7 @@ static void call_submit(uint32_t declared)
 static void call_complete(void)
 {
     piongseut_complete_answer answer;
-    CALL(COMPLETE, answer = piongseut_complete(&kept.record, LENT(0), LENT(1)));
+    CALL(COMPLETE, answer = piongseut_complete(&kept.record, LENT(0), form, LENT(1)));
     put(answer.number, 1);
     put(answer.status, 1);
 }
@@ -326,7 +327,8 @@ static void call_intake_inquiry(void)
     piongseut_inquiry_answer answer = {PIONGSEUT_REFUSED_SIZE, PIONGSEUT_NONE, PIONGSEUT_SHOWN_ROOM, 0};
     CALL(INTAKE_INQUIRY, block = piongseut_intake_block(intake, piece[0].size));
     if (block.number == PIONGSEUT_ACCEPTED)
-        CALL(INQUIRY, answer = piongseut_inquiry(LENT(1), piece[0].at, block.count, LENT(2), LENT(3), LENT(4), LENT(5), LENT(6)));
+        CALL(INQUIRY, answer = piongseut_inquiry(LENT(1), piece[0].at, block.count, LENT(2), LENT(3), LENT(4), form, LENT(5),
+                                                 LENT(6)));
     put_count(block.number, block.count);
     put_inquiry(answer);
 }
@@ -447,6 +449,7 @@ static void serve(void)
     if (function >= FUNCTIONS)
         die("no such function");
     uint32_t declared = (uint32_t)take(4);
+    form = (uint8_t)take(1);
     take_record(first & 0x80);
     take_intake();
     take_pieces(function);

@@ -3,6 +3,8 @@
 
 use crate::applies;
 use crate::call::{Call, Said, NAMES};
+use crate::numbers::Numbers;
+use crate::senses;
 use crate::show;
 use crate::trouble;
 use std::collections::HashSet;
@@ -56,6 +58,11 @@ pub struct Board {
     pub applied: Vec<HashSet<applies::Set>>,
     /// Calls that were not answered with the first refusal that applies.
     pub not_first: u64,
+    /// The kinds of forms in which each function gave each number: bit n for
+    /// form n, bit 3 for all numbers that state none but 0.
+    pub formed: [[u8; NUMBERS]; NAMES.len()],
+    /// From which the form comes of a call that leaves it open.
+    forms: Numbers,
 }
 
 fn spawn(command: &[String]) -> io::Result<(Child, ChildStdin, ChildStdout)> {
@@ -94,6 +101,8 @@ impl Board {
             counts: [[0; NUMBERS]; NAMES.len()],
             applied: vec![HashSet::new(); NAMES.len()],
             not_first: 0,
+            formed: [[0; NUMBERS]; NAMES.len()],
+            forms: Numbers::new(0),
         })
     }
 
@@ -115,26 +124,28 @@ impl Board {
     /// Makes a call of both programs.
     pub fn call(&mut self, call: &Call) -> Said {
         let at = self.classes.len() - 1;
+        let form = call.form.unwrap_or_else(|| senses::any(&mut self.forms));
         let batch = &mut self.batch;
         (batch.class, batch.name) = (at, self.classes[at].name);
         let start = (batch.requests.len(), batch.answers.len());
         batch.starts.push(start);
-        call.encode(&mut batch.requests);
-        let said = call.answer(&mut batch.answers);
+        call.encode(form, &mut batch.requests);
+        let said = call.answer(form, &mut batch.answers);
         self.classes[at].calls += 1;
         self.classes[at].numbers |= 1 << said.number;
-        self.count(call, said.number);
+        self.count(call, form, said.number);
         if self.batch.requests.len() >= BATCH {
             self.send();
         }
         said
     }
 
-    /// Notes the number given.
-    fn count(&mut self, call: &Call, number: u8) {
+    /// Notes the number given, and the form in which it was.
+    fn count(&mut self, call: &Call, form: u8, number: u8) {
         let function = usize::from(call.function);
         let set = applies::to(call);
         self.counts[function][usize::from(number)] += 1;
+        self.formed[function][usize::from(number)] |= 1 << form.min(3);
         self.not_first += u64::from(applies::first(set) != u32::from(number));
         self.applied[function].insert(set);
     }

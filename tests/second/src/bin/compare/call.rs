@@ -88,6 +88,9 @@ pub struct Call {
     /// Whether the board uses the record that its last call left.
     pub kept: bool,
     pub declared: u32,
+    /// The form of sense data that the caller states; None leaves it open, and
+    /// the call is made in any.
+    pub form: Option<u8>,
     pub record: Record,
     pub intake: Intake,
     pub pieces: Vec<Vec<u8>>,
@@ -106,6 +109,7 @@ impl Call {
             function,
             kept: false,
             declared: 0,
+            form: None,
             record: Record::default(),
             intake: Intake::default(),
             pieces,
@@ -127,17 +131,23 @@ impl Call {
         self
     }
 
+    pub fn form(mut self, form: u8) -> Call {
+        self.form = Some(form);
+        self
+    }
+
     pub fn piece(mut self, at: usize, bytes: Vec<u8>) -> Call {
         self.pieces[at] = bytes;
         self
     }
 
-    /// The call as the board reads it.
-    pub fn encode(&self, out: &mut Vec<u8>) {
+    /// The call in this form, as the board reads it.
+    pub fn encode(&self, form: u8, out: &mut Vec<u8>) {
         let start = out.len();
         out.extend([0; 4]);
         out.push(self.function | if self.kept { KEPT } else { 0 });
         out.extend(self.declared.to_le_bytes());
+        out.push(form);
         put_record(&self.record, out);
         put_intake(&self.intake, out);
         out.push(self.pieces.len() as u8);
@@ -153,6 +163,7 @@ impl Call {
         let mut from = Bytes(bytes.get(4..)?);
         let function = from.number(1)? as u8 & !KEPT;
         let declared = from.number(4)? as u32;
+        let form = Some(from.number(1)? as u8);
         let record = from.record()?;
         let intake = from.intake()?;
         let count = from.number(1)? as usize;
@@ -168,6 +179,7 @@ impl Call {
             function,
             kept: false,
             declared,
+            form,
             record,
             intake,
             pieces,
@@ -175,9 +187,9 @@ impl Call {
         from.0.is_empty().then_some(call)
     }
 
-    /// Runs the second program on copies of the pieces, and writes down what
-    /// the board is to answer.
-    pub fn answer(&self, out: &mut Vec<u8>) -> Said {
+    /// Runs the second program on copies of the pieces, in this form, and
+    /// writes down what the board is to answer.
+    pub fn answer(&self, form: u8, out: &mut Vec<u8>) -> Said {
         let start = out.len();
         out.extend([0; 4]);
         out.push(self.function);
@@ -185,15 +197,15 @@ impl Call {
         let mut record = self.record;
         let number = match self.function {
             EMPTY => answer_empty(&record, out),
-            INQUIRY => self.answer_inquiry(&record, out),
-            SUBMIT => self.answer_submit(&mut record, out),
-            COMPLETE => self.answer_complete(&mut record, out),
+            INQUIRY => self.answer_inquiry(form, &record, out),
+            SUBMIT => self.answer_submit(form, &mut record, out),
+            COMPLETE => self.answer_complete(form, &mut record, out),
             WRITE => self.answer_write(&record, out),
             READ => self.answer_read(&record, out),
             ROLL => self.answer_roll(&record, out),
             INTAKE_EMPTY => answer_intake_empty(&record, out),
             INTAKE_TAKE => self.answer_take(&record, out),
-            INTAKE_INQUIRY => self.answer_intake_inquiry(&record, out),
+            INTAKE_INQUIRY => self.answer_intake_inquiry(form, &record, out),
             INTAKE_ROLL => self.answer_intake_roll(&record, out),
             CENSUS_EMPTY => answer_census_empty(&record, out),
             _ => self.answer_census_feed(&record, out),
@@ -202,11 +214,11 @@ impl Call {
         Said { number, record }
     }
 
-    fn answer_inquiry(&self, record: &Record, out: &mut Vec<u8>) -> u8 {
+    fn answer_inquiry(&self, form: u8, record: &Record, out: &mut Vec<u8>) -> u8 {
         let p = &self.pieces;
         let (mut room, mut sense) = (p[5].clone(), p[6].clone());
         let lent = (&mut room[..], &mut sense[..]);
-        let answer = second::inquiry(&p[0], &p[1], &p[2], &p[3], &p[4], 0, lent.0, lent.1);
+        let answer = second::inquiry(&p[0], &p[1], &p[2], &p[3], &p[4], form, lent.0, lent.1);
         put_inquiry(&answer, out);
         put_record(record, out);
         p[..5].iter().for_each(|piece| out.extend(piece));
@@ -215,10 +227,10 @@ impl Call {
         answer.number
     }
 
-    fn answer_submit(&self, record: &mut Record, out: &mut Vec<u8>) -> u8 {
+    fn answer_submit(&self, form: u8, record: &mut Record, out: &mut Vec<u8>) -> u8 {
         let p = &self.pieces;
         let mut sense = p[2].clone();
-        let taken = second::submit(record, &p[0], &p[1], self.declared, 0, &mut sense);
+        let taken = second::submit(record, &p[0], &p[1], self.declared, form, &mut sense);
         out.extend([taken.number, taken.status]);
         put_order(&taken.order, out);
         put_record(record, out);
@@ -228,10 +240,10 @@ impl Call {
         taken.number
     }
 
-    fn answer_complete(&self, record: &mut Record, out: &mut Vec<u8>) -> u8 {
+    fn answer_complete(&self, form: u8, record: &mut Record, out: &mut Vec<u8>) -> u8 {
         let p = &self.pieces;
         let mut sense = p[1].clone();
-        let ended = second::complete(record, &p[0], 0, &mut sense);
+        let ended = second::complete(record, &p[0], form, &mut sense);
         out.extend([ended.number, ended.status]);
         put_record(record, out);
         out.extend(&p[0]);
@@ -282,14 +294,14 @@ impl Call {
     }
 
     /// INQUIRY with the bytes of the store that are the intake's block.
-    fn answer_intake_inquiry(&self, record: &Record, out: &mut Vec<u8>) -> u8 {
+    fn answer_intake_inquiry(&self, form: u8, record: &Record, out: &mut Vec<u8>) -> u8 {
         let p = &self.pieces;
         let (mut room, mut sense) = (p[5].clone(), p[6].clone());
         let block = second::block_size(self.intake, p[0].len());
         let answer = if block.number == 0 {
             let block = &p[0][..block.count];
             let lent = (&mut room[..], &mut sense[..]);
-            second::inquiry(&p[1], block, &p[2], &p[3], &p[4], 0, lent.0, lent.1)
+            second::inquiry(&p[1], block, &p[2], &p[3], &p[4], form, lent.0, lent.1)
         } else {
             not_asked(block.number)
         };

@@ -22,11 +22,12 @@ mod orders;
 mod pages;
 mod random;
 mod rolls;
+mod senses;
 mod show;
 mod soundings;
 
 use board::{Board, Talk, NUMBERS};
-use call::{Call, NAMES};
+use call::{Call, COMPLETE, INQUIRY, INTAKE_INQUIRY, NAMES, SUBMIT};
 use std::error::Error;
 use std::io;
 use std::process::ExitCode;
@@ -121,7 +122,7 @@ fn real_blocks(folder: &str) -> io::Result<Vec<Vec<u8>>> {
 /// A class of inputs that takes nothing but the board.
 type Inputs = fn(&mut Board);
 
-const CLASSES: [(&str, Inputs); 38] = [
+const CLASSES: [(&str, Inputs); 42] = [
     ("soundings C1 to C13", soundings::numbered),
     ("the other soundings", soundings::others),
     ("published examples", soundings::published),
@@ -138,6 +139,13 @@ const CLASSES: [(&str, Inputs); 38] = [
     ("orders: sizes of lent pieces", orders::sizes),
     ("orders: completion with every status", orders::completions),
     ("orders: records with odd contents", orders::odd_records),
+    ("sense: refusals in every form", senses::refusals),
+    ("sense: every number of a form, by rooms", senses::numbers),
+    ("sense: each register, in every form", senses::registers),
+    (
+        "sense: an order in one form, its end in another",
+        senses::orders,
+    ),
     ("inquiry: refusals alone and together", inquiries::refusals),
     ("inquiry: sizes of lent pieces", inquiries::sizes),
     ("inquiry: pages, cuts and room", inquiries::cuts),
@@ -208,7 +216,8 @@ fn run(asked: Asked) -> io::Result<bool> {
         report.check(*differences == 0 && calls > 0, &text);
     }
     if !asked.first {
-        coverage(&board, &agreed, &mut report);
+        own_answers(&agreed, &mut report);
+        coverage(&board, &mut report);
         let calls: u64 = board.classes.iter().map(|class| class.calls).sum();
         println!("calls: {calls}, differences: {}", found.iter().sum::<u64>());
     }
@@ -230,6 +239,8 @@ struct Agreed {
     cuts: bool,
     /// Class counts and the blocks of each class.
     classes: bool,
+    /// The two forms of sense data.
+    forms: bool,
 }
 
 /// The classes that take a seed or the real blocks.
@@ -248,6 +259,8 @@ fn seeded(board: &mut Board, asked: &Asked) -> Agreed {
     soundings::real_drives(board, &asked.real);
     board.class("inquiry: two allocation lengths of one request");
     let cuts = random::cut_again(board, asked.seed, &asked.real);
+    board.class("sense: both forms of one call");
+    let forms = senses::both(board, asked.seed, &asked.real);
     board.class("census: fleets of drives");
     let classes = censuses::fleets(board, &asked.real, asked.seed);
     board.class("sequences through one record");
@@ -261,6 +274,7 @@ fn seeded(board: &mut Board, asked: &Asked) -> Agreed {
         streams,
         cuts,
         classes,
+        forms,
     }
 }
 
@@ -281,8 +295,7 @@ impl Report {
     }
 }
 
-/// What was covered, and what the second program's own answers show.
-fn coverage(board: &Board, agreed: &Agreed, report: &mut Report) {
+fn own_answers(agreed: &Agreed, report: &mut Report) {
     report.check(
         agreed.pages,
         "roll: the same row exactly if the pages 83h are equal",
@@ -300,6 +313,14 @@ fn coverage(board: &Board, agreed: &Agreed, report: &mut Report) {
         "census: each class has as many blocks as were fed to it",
     );
     report.check(
+        agreed.forms,
+        "sense: a form changes the sense bytes alone, and both tell the same",
+    );
+}
+
+/// What was covered.
+fn coverage(board: &Board, report: &mut Report) {
+    report.check(
         cover(&board.counts),
         "every function gave every number it can",
     );
@@ -314,7 +335,17 @@ fn coverage(board: &Board, agreed: &Agreed, report: &mut Report) {
             report.check(held, &format!("{}: each refusal alone", NAMES[at]));
         }
     }
+    forms_tried(board, report);
     pairs_tried(board, report);
+}
+
+/// That each function that takes a form gave each number in every kind of form.
+fn forms_tried(board: &Board, report: &mut Report) {
+    for function in [INQUIRY, SUBMIT, COMPLETE, INTAKE_INQUIRY].map(usize::from) {
+        let every = |&number: &usize| board.formed[function][number] == 0b1111;
+        let text = format!("{}: each number in every form", NAMES[function]);
+        report.check(GIVEN[function].iter().all(every), &text);
+    }
 }
 
 /// That the refusals that can apply together were tried so.
@@ -374,8 +405,9 @@ fn replay(arguments: &[String]) -> io::Result<bool> {
     let request = show::from_hex(digits.trim_start_matches('-').trim()).unwrap_or_default();
     let call = Call::decode(&request).ok_or_else(|| trouble("no call in these digits"))?;
     let (mut sent, mut wanted) = (Vec::new(), Vec::new());
-    call.encode(&mut sent);
-    call.answer(&mut wanted);
+    let form = call.form.unwrap_or(0);
+    call.encode(form, &mut sent);
+    call.answer(form, &mut wanted);
     let mut talk = Talk::start(&behind_dashes(arguments)?)?;
     let given = talk.ask(&sent, wanted.len()).ok();
     let equal = given.as_deref() == Some(&wanted[..]);

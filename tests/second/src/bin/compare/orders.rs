@@ -10,7 +10,7 @@ const DECLARED: [u32; 8] = [0, 1, 255, 511, 512, 513, 33_553_920, u32::MAX];
 
 /// A command of either form with the fields of bytes 1 and 2, and the same
 /// features and count; its other bytes all differ.
-fn command(long: bool, byte_1: u8, byte_2: u8, numbers: (u16, u16), control: u8) -> Vec<u8> {
+pub fn command(long: bool, byte_1: u8, byte_2: u8, numbers: (u16, u16), control: u8) -> Vec<u8> {
     let ([fh, fl], [ch, cl]) = (numbers.0.to_be_bytes(), numbers.1.to_be_bytes());
     if long {
         vec![
@@ -87,7 +87,7 @@ pub fn lengths(board: &mut Board) {
 
 /// Commands of which each refuses by its own numbers, alone and together: NACA
 /// (4), PROTOCOL (9), T_LENGTH (11), T_DIR (12), length 0 (13), declared (14).
-fn refused_commands() -> Vec<Vec<u8>> {
+pub fn refused_commands() -> Vec<Vec<u8>> {
     let mut all = vec![vec![], vec![0x00], vec![0x12; 6], vec![0x00; 16]];
     all.extend([vec![0xA0; 16], vec![0x86; 16], vec![0x85], vec![0xA1]]);
     for long in [false, true] {

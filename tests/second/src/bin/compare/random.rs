@@ -132,7 +132,7 @@ fn block(numbers: &mut Numbers, known: &[Vec<u8>]) -> Vec<u8> {
     block
 }
 
-fn submit(numbers: &mut Numbers) -> Call {
+pub fn submit(numbers: &mut Numbers) -> Call {
     let mut command = numbers.bytes(16);
     command[0] = numbers.pick(&[0x85, 0xA1]);
     let control = if command[0] == 0x85 { 15 } else { 11 };
@@ -174,7 +174,7 @@ fn odd_record(call: &mut Call, numbers: &mut Numbers) {
     call.record.order.protocol = numbers.byte();
 }
 
-fn complete(numbers: &mut Numbers) -> Call {
+pub fn complete(numbers: &mut Numbers) -> Call {
     let mut call = Call::new(COMPLETE, vec![numbers.bytes(11), numbers.bytes(22)]);
     odd_record(&mut call, numbers);
     call.record.state |= u32::from(!numbers.once_in(4));
@@ -184,7 +184,7 @@ fn complete(numbers: &mut Numbers) -> Call {
     call
 }
 
-fn inquiry(numbers: &mut Numbers, known: &[Vec<u8>]) -> Call {
+pub fn inquiry(numbers: &mut Numbers, known: &[Vec<u8>]) -> Call {
     let command = inquiry_command(numbers);
     let block = match numbers.below(8) {
         0 => Vec::new(),

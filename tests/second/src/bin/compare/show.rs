@@ -40,6 +40,7 @@ fn describe(call: &Call) -> String {
     let at = usize::from(call.function);
     let mut text = format!("  piongseut_{}\n", NAMES[at]);
     text += &format!("    declared {}, {:X?}\n", call.declared, call.record);
+    text += &format!("    form {}\n", call.form.unwrap_or(0));
     text += &format!("    {:?}\n", call.intake);
     for (name, piece) in PIECES[at].iter().zip(&call.pieces) {
         text += &format!("    {} ({} bytes) {}\n", name, piece.len(), hex(piece));

@@ -5,30 +5,35 @@ use crate::call::{Call, EMPTY};
 use crate::lent::{self, packet, room};
 use crate::rolls;
 
-/// C1 to C13.
+/// C1 to C13, with no form stated, as they stand, and in each form.
 pub fn numbered(board: &mut Board) {
+    [0, 1, 2].iter().for_each(|&form| in_form(board, form));
+}
+
+fn in_form(board: &mut Board, form: u8) {
+    let mut ask = |call: Call| board.call(&call.form(form)).record;
     for allocation in [255, 5, 0] {
         let call = lent::inquiry_page(0x83, allocation);
-        board.call(&call.piece(2, vec![0; 20]));
+        ask(call.piece(2, vec![0; 20]));
     }
-    board.call(&lent::inquiry(&[0x12, 0x00, 0x80, 0x00, 0xFF, 0x00]));
-    board.call(&lent::inquiry(&[0x12, 0x01, 0xB0, 0x00, 0xFF, 0x00]));
+    ask(lent::inquiry(&[0x12, 0x00, 0x80, 0x00, 0xFF, 0x00]));
+    ask(lent::inquiry(&[0x12, 0x01, 0xB0, 0x00, 0xFF, 0x00]));
     let c6 = [0xA1, 0x08, 0x0E, 0, 1, 0, 0, 0, 0, 0xEC, 0, 0];
-    board.call(&lent::submit(&c6, 512));
-    board.call(&lent::submit(&c6, 511));
+    ask(lent::submit(&c6, 512));
+    ask(lent::submit(&c6, 511));
     for (at, value) in [(2, 0x06), (2, 0x0C), (4, 0x00), (1, 0x04)] {
         let mut command = c6;
         command[at] = value;
-        board.call(&lent::submit(&command, 512));
+        ask(lent::submit(&command, 512));
     }
     let mut c12 = vec![0x85, 0x06, 0x20];
     c12.extend([0; 11]);
     c12.extend([0xE5, 0x00]);
-    let record = board.call(&lent::submit(&c12, 0)).record;
+    let record = ask(lent::submit(&c12, 0));
     let call = lent::complete(record, 0x50);
-    board.call(&call.piece(0, vec![0, 0, 0xFF, 0, 0, 0, 0, 0, 0, 0, 0x50]));
-    board.call(&lent::inquiry(&[]));
-    board.call(&lent::submit(&[], 0));
+    ask(call.piece(0, vec![0, 0, 0xFF, 0, 0, 0, 0, 0, 0, 0, 0x50]));
+    ask(lent::inquiry(&[]));
+    ask(lent::submit(&[], 0));
 }
 
 /// The other soundings.
