@@ -77,9 +77,9 @@ struct measured {
 
 /*
  * How a call is made: for a drive without a name, for a packet drive, with an order pending, with one that asks for registers,
- * with an intake that has a part of its block, with blocks that carry a checksum.
+ * with an intake that has a part of its block, with blocks that carry a checksum, for sense data in the fixed form.
  */
-enum { TEXTS = 1, PACKET = 2, HELD = 4, CK_COND = 8, PART = 16, SUMMED = 32 };
+enum { TEXTS = 1, PACKET = 2, HELD = 4, CK_COND = 8, PART = 16, SUMMED = 32, FIXED = 64 };
 
 static _Alignas(64) uint8_t block[PIONGSEUT_BLOCK_SIZE], blocks[PIONGSEUT_ROLL_BLOCKS * PIONGSEUT_BLOCK_SIZE];
 static _Alignas(64) uint8_t page[PIONGSEUT_PAGE83_TEXT_SIZE];
@@ -89,6 +89,12 @@ static uint8_t reply[7] = {5, 0, 0, 3, 0, 0x80, 0x83};
 static size_t page_size; /* of the page that was written last; it is the one to be read */
 
 /* ---- The calls ---- */
+
+/* Descriptor is what a caller gets who states no form. */
+static uint8_t form_of(const measured *one)
+{
+    return one->how & FIXED ? PIONGSEUT_SENSE_FIXED : PIONGSEUT_SENSE_UNSTATED;
+}
 
 static void make_empty(const measured *one, const maker *by, left *to)
 {
@@ -100,14 +106,15 @@ static void make_inquiry(const measured *one, const maker *by, left *to)
 {
     piongseut_inquiry_answer answer;
     STACK_CALL(answer = by->inquiry(one->command, 6, block, sizeof block, signature, sizeof signature, texts, sizeof texts, reply,
-                                    sizeof reply, to->room, sizeof to->room, to->sense, sizeof to->sense));
+                                    sizeof reply, form_of(one), to->room, sizeof to->room, to->sense, sizeof to->sense));
     SAID(to, answer.number, answer.status, answer.shown, answer.count);
 }
 
 static void make_submit(const measured *one, const maker *by, left *to)
 {
     piongseut_submit_answer answer;
-    STACK_CALL(answer = by->submit(&to->record, one->command, 16, registers, sizeof registers, 512, to->sense, sizeof to->sense));
+    STACK_CALL(answer = by->submit(&to->record, one->command, 16, registers, sizeof registers, 512, form_of(one), to->sense,
+                                   sizeof to->sense));
     SAID(to, answer.number, answer.status);
     to->order = answer.order;
 }
@@ -115,8 +122,7 @@ static void make_submit(const measured *one, const maker *by, left *to)
 static void make_complete(const measured *one, const maker *by, left *to)
 {
     piongseut_complete_answer answer;
-    (void)one;
-    STACK_CALL(answer = by->complete(&to->record, registers, sizeof registers, to->sense, sizeof to->sense));
+    STACK_CALL(answer = by->complete(&to->record, registers, sizeof registers, form_of(one), to->sense, sizeof to->sense));
     SAID(to, answer.number, answer.status);
 }
 
@@ -217,6 +223,7 @@ static const measured calls[] = {
     {"inquiry, page 83h, A5h", 0, 16, make_inquiry, SUMMED, {0x12, 1, 0x83, 2, 0x3C}},
     {"inquiry, page 89h", 250, 572, make_inquiry, 0, {0x12, 1, 0x89, 2, 0x3C}},
     {"inquiry, refusal, sense", 100, 8, make_inquiry, 0, {0x12, 1, 0xB0, 2, 0x3C}},
+    {"inquiry, refusal, fixed", 0, 18, make_inquiry, FIXED, {0x12, 1, 0xB0, 2, 0x3C}},
     {"packet drive, page 00h", 0, 8, make_inquiry, PACKET, {0x12, 1, 0x00, 2, 0x3C}},
     {"packet drive, page 89h", 0, 572, make_inquiry, PACKET, {0x12, 1, 0x89, 2, 0x3C}},
     {"packet drive, own reply", 0, 0, make_inquiry, PACKET, {0x12, 1, 0x83, 2, 0x3C}},
@@ -224,7 +231,9 @@ static const measured calls[] = {
     {"submit, IDENTIFY DEVICE", 130, 24 + 28, make_submit, 0, {0x85, 0x08, 0x2E, 0, 0, 0, 1, 0, 0, 0, 0, 0, 0, 0, 0xEC, 0}},
     {"submit, protocol 15", 0, 22, make_submit, HELD, {0x85, 0x1E}},
     {"submit, refusal, sense", 0, 8, make_submit, 0, {0x85, 0x04}},
+    {"submit, refusal, fixed", 0, 18, make_submit, FIXED, {0x85, 0x04}},
     {"complete, CK_COND", 110, 28 + 22, make_complete, HELD | CK_COND, {0}},
+    {"complete, CK_COND, fixed", 0, 28 + 18, make_complete, HELD | CK_COND | FIXED, {0}},
     {"complete, GOOD", 0, 28, make_complete, HELD, {0}},
     {"write page 83h, name", 0, 16, make_write, 0, {0}},
     {"read page 83h, name", 0, 60, make_read, 0, {0}},

@@ -125,20 +125,37 @@ const TABLE: [[u8; 3]; 19] = [
     FIELD, [0; 3], FIELD, FIELD, FIELD, FIELD, [0; 3], [0; 3], [0; 3], [0; 3],
 ];
 
+/// The one number that states the fixed form; all others come to the descriptor form.
+const FIXED: u8 = 1;
+
+/// The fixed form of a refusal, into which a report puts the registers.
+fn fixed([key, asc, ascq]: [u8; 3]) -> [u8; 18] {
+    [0x70, 0, key, 0, 0, 0, 0, 0x0A, 0, 0, 0, 0, asc, ascq, 0, 0, 0, 0]
+}
+
 /// Writes the sense bytes of a refusal, and gives its status.
-fn refuse(number: u8, sense: &mut [u8]) -> u8 {
+fn refuse(number: u8, form: u8, sense: &mut [u8]) -> u8 {
     match (number, TABLE[usize::from(number)]) {
-        (10, _) => BUSY,
-        (_, [0, ..]) => NONE,
-        (_, [key, asc, ascq]) => {
-            sense[..8].copy_from_slice(&[0x72, key, asc, ascq, 0, 0, 0, 0]);
-            CHECK_CONDITION
-        }
+        (10, _) => return BUSY,
+        (_, [0, ..]) => return NONE,
+        (_, codes) if form == FIXED => sense[..18].copy_from_slice(&fixed(codes)),
+        (_, [key, asc, ascq]) => sense[..8].copy_from_slice(&[0x72, key, asc, ascq, 0, 0, 0, 0]),
     }
+    CHECK_CONDITION
 }
 
 /// Writes the sense bytes that report registers, and gives the status.
-fn report([key, asc, ascq]: [u8; 3], extend: bool, registers: &[u8; 11], sense: &mut [u8]) -> u8 {
+fn report(codes: [u8; 3], extend: bool, registers: &[u8; 11], form: u8, sense: &mut [u8]) -> u8 {
+    if form == FIXED {
+        let [error, c, c0, l, l0, m, m0, h, h0, device, status] = *registers;
+        let flags = if extend { 0x80 | u8::from(c != 0) << 6 | u8::from(l | m | h != 0) << 5 } else { 0 };
+        let mut bytes = fixed(codes);
+        bytes[3..7].copy_from_slice(&[error, status, device, c0]);
+        bytes[8..12].copy_from_slice(&[flags, l0, m0, h0]);
+        sense[..18].copy_from_slice(&bytes);
+        return CHECK_CONDITION;
+    }
+    let [key, asc, ascq] = codes;
     let mut bytes = [0x72, key, asc, ascq, 0, 0, 0, 0x0E, 0x09, 0x0C, extend.into(), 0, 0, 0, 0, 0, 0, 0, 0, 0, 0, 0];
     bytes[11..].copy_from_slice(registers);
     if !extend {
@@ -364,14 +381,14 @@ fn order_of(asked: &Asked, protocol: u8, declared: u32) -> Result<Order, u8> {
 }
 
 fn submit(
-    record: &mut Pending, command: &[u8], registers: &[u8], declared: u32, sense: &mut [u8],
+    record: &mut Pending, command: &[u8], registers: &[u8], declared: u32, form: u8, sense: &mut [u8],
 ) -> Result<(u8, Order), u8> {
     let registers = registers.try_into().ok().filter(|_| sense.len() >= 22).ok_or(1)?;
     let asked = read(command)?;
     match asked.first >> 1 & 15 {
         _ if asked.control & 4 != 0 => Err(4),
         2 | 7 | 12 | 13 | 14 => Err(9),
-        15 => Ok((report([0x01, 0x00, 0x1D], false, registers, sense), Order::default())),
+        15 => Ok((report([0x01, 0x00, 0x1D], false, registers, form, sense), Order::default())),
         _ if record.state != 0 => Err(10),
         protocol => {
             let order = order_of(&asked, protocol, declared)?;
@@ -381,16 +398,16 @@ fn submit(
     }
 }
 
-fn complete(record: &mut Pending, registers: &[u8], sense: &mut [u8]) -> Result<u8, u8> {
+fn complete(record: &mut Pending, registers: &[u8], form: u8, sense: &mut [u8]) -> Result<u8, u8> {
     let registers: &[u8; 11] = registers.try_into().ok().filter(|_| sense.len() >= 22).ok_or(1)?;
     if record.state == 0 {
         return Err(15);
     }
     let order = std::mem::take(record).order;
     Ok(if registers[10] & 0x21 != 0 {
-        report([0x0B, 0x00, 0x00], order.extend != 0, registers, sense)
+        report([0x0B, 0x00, 0x00], order.extend != 0, registers, form, sense)
     } else if order.ck_cond != 0 {
-        report([0x01, 0x00, 0x1D], order.extend != 0, registers, sense)
+        report([0x01, 0x00, 0x1D], order.extend != 0, registers, form, sense)
     } else {
         GOOD
     })
@@ -506,7 +523,7 @@ pub extern "C" fn plain_record_empty() -> Pending {
 #[no_mangle]
 pub unsafe extern "C" fn plain_inquiry(
     command: *const u8, command_size: usize, block: *const u8, block_size: usize, signature: *const u8, signature_size: usize,
-    texts: *const u8, texts_size: usize, reply: *const u8, reply_size: usize, room: *mut u8, room_size: usize,
+    texts: *const u8, texts_size: usize, reply: *const u8, reply_size: usize, form: u8, room: *mut u8, room_size: usize,
     sense: *mut u8, sense_size: usize,
 ) -> InquiryAnswer {
     let (texts, reply) = (lent(texts, texts_size), lent(reply, reply_size));
@@ -515,7 +532,7 @@ pub unsafe extern "C" fn plain_inquiry(
     let drive = drive.filter(|_| sense.len() >= 22).ok_or(1);
     match drive.and_then(|drive| inquiry(lent(command, command_size), &drive, lent_mut(room, room_size))) {
         Ok((shown, count)) => InquiryAnswer { number: 0, status: GOOD, shown, count },
-        Err(number) => InquiryAnswer { number, status: refuse(number, sense), shown: ROOM, count: 0 },
+        Err(number) => InquiryAnswer { number, status: refuse(number, form, sense), shown: ROOM, count: 0 },
     }
 }
 
@@ -524,13 +541,13 @@ pub unsafe extern "C" fn plain_inquiry(
 #[no_mangle]
 pub unsafe extern "C" fn plain_submit(
     record: &mut Pending, command: *const u8, command_size: usize, registers: *const u8, registers_size: usize, declared: u32,
-    sense: *mut u8, sense_size: usize,
+    form: u8, sense: *mut u8, sense_size: usize,
 ) -> Taken {
     let (command, registers) = (lent(command, command_size), lent(registers, registers_size));
     let sense = lent_mut(sense, sense_size);
-    match submit(record, command, registers, declared, sense) {
+    match submit(record, command, registers, declared, form, sense) {
         Ok((status, order)) => Taken { number: 0, status, order },
-        Err(number) => Taken { number, status: refuse(number, sense), order: Order::default() },
+        Err(number) => Taken { number, status: refuse(number, form, sense), order: Order::default() },
     }
 }
 
@@ -538,12 +555,12 @@ pub unsafe extern "C" fn plain_submit(
 /// As the header says of piongseut_complete.
 #[no_mangle]
 pub unsafe extern "C" fn plain_complete(
-    record: &mut Pending, registers: *const u8, registers_size: usize, sense: *mut u8, sense_size: usize,
+    record: &mut Pending, registers: *const u8, registers_size: usize, form: u8, sense: *mut u8, sense_size: usize,
 ) -> Ended {
     let sense = lent_mut(sense, sense_size);
-    match complete(record, lent(registers, registers_size), sense) {
+    match complete(record, lent(registers, registers_size), form, sense) {
         Ok(status) => Ended { number: 0, status },
-        Err(number) => Ended { number, status: refuse(number, sense) },
+        Err(number) => Ended { number, status: refuse(number, form, sense) },
     }
 }
 
