@@ -16,7 +16,7 @@ static int pending;
 static piongseut_order held;
 
 static uint64_t seed = 20;
-static unsigned seen[PIONGSEUT_REFUSED_NOT_A_PAGE], taken_orders, reports, completions[3], resets;
+static unsigned seen[PIONGSEUT_REFUSED_NOT_A_PAGE], taken_orders, reports, completions[3], resets, told[2];
 
 /* xorshift64: the same run on every machine. */
 static unsigned roll(unsigned below)
@@ -27,19 +27,48 @@ static unsigned roll(unsigned below)
     return (unsigned)((seed >> 32) % below);
 }
 
-static void put_sense(uint8_t *sense, uint8_t key, uint8_t asc, uint8_t ascq)
+/* A form of sense data: each of the three, and numbers that state none. */
+static uint8_t draw_form(void)
 {
-    memset(sense, 0, PIONGSEUT_REFUSAL_SENSE_SIZE);
-    sense[0] = 0x72;
-    sense[1] = key;
-    sense[2] = asc;
-    sense[3] = ascq;
+    return (uint8_t)(roll(4) ? roll(3) : roll(256));
+}
+
+static void put_sense(uint8_t *sense, uint8_t form, uint8_t key, uint8_t asc, uint8_t ascq)
+{
+    const int fixed = form == PIONGSEUT_SENSE_FIXED;
+    memset(sense, 0, fixed ? PIONGSEUT_FIXED_SENSE_SIZE : PIONGSEUT_REFUSAL_SENSE_SIZE);
+    told[fixed]++;
+    sense[0] = fixed ? 0x70 : 0x72;
+    sense[7] = fixed ? 0x0A : 0x00;
+    sense[fixed ? 2 : 1] = key;
+    sense[fixed ? 12 : 2] = asc;
+    sense[fixed ? 13 : 3] = ascq;
+}
+
+/* The fixed form's registers: of count and LBA the lower bytes, and in byte 8 what EXTEND and the upper ones say. */
+static void put_fixed_registers(uint8_t *sense, uint8_t extend, const uint8_t *registers)
+{
+    const int count = registers[PIONGSEUT_REGISTER_COUNT_HIGH] != 0;
+    const int lba = registers[PIONGSEUT_REGISTER_LBA_LOW_HIGH] != 0 || registers[PIONGSEUT_REGISTER_LBA_MID_HIGH] != 0 ||
+                    registers[PIONGSEUT_REGISTER_LBA_HIGH_HIGH] != 0;
+    sense[3] = registers[PIONGSEUT_REGISTER_ERROR];
+    sense[4] = registers[PIONGSEUT_REGISTER_STATUS];
+    sense[5] = registers[PIONGSEUT_REGISTER_DEVICE];
+    sense[6] = registers[PIONGSEUT_REGISTER_COUNT_LOW];
+    sense[8] = (uint8_t)(extend ? 0x80 | count << 6 | lba << 5 : 0);
+    sense[9] = registers[PIONGSEUT_REGISTER_LBA_LOW_LOW];
+    sense[10] = registers[PIONGSEUT_REGISTER_LBA_MID_LOW];
+    sense[11] = registers[PIONGSEUT_REGISTER_LBA_HIGH_LOW];
 }
 
 /* The descriptor form: the 8 bytes, then the drive's registers. With EXTEND zero the four upper bytes are 00. */
-static void put_registers(uint8_t *sense, uint8_t key, uint8_t ascq, uint8_t extend, const uint8_t *registers)
+static void put_registers(uint8_t *sense, uint8_t form, uint8_t key, uint8_t ascq, uint8_t extend, const uint8_t *registers)
 {
-    put_sense(sense, key, 0, ascq);
+    put_sense(sense, form, key, 0, ascq);
+    if (form == PIONGSEUT_SENSE_FIXED) {
+        put_fixed_registers(sense, extend, registers);
+        return;
+    }
     sense[7] = 0x0E;
     sense[8] = 0x09;
     sense[9] = 0x0C;
@@ -170,21 +199,22 @@ static int submission(piongseut_record *record, const uint8_t *registers)
 {
     uint8_t command[16], sense[SENSE], wanted[SENSE];
     const uint32_t declared = roll(4) ? 0x02000000 : roll(1024);
+    const uint8_t form = draw_form();
     draw(command);
     memset(sense, FILL, SENSE);
     memset(wanted, FILL, SENSE);
     const piongseut_record before = *record;
     const uint8_t number = refusal(command, declared);
     const piongseut_submit_answer got =
-        piongseut_submit(record, command, sizeof command, registers, PIONGSEUT_REGISTERS_SIZE, declared, sense, SENSE);
+        piongseut_submit(record, command, sizeof command, registers, PIONGSEUT_REGISTERS_SIZE, declared, form, sense, SENSE);
     piongseut_order order;
     memset(&order, 0, sizeof order);
     uint8_t status = number == PIONGSEUT_REFUSED_PENDING ? PIONGSEUT_BUSY : PIONGSEUT_CHECK_CONDITION;
     seen[number]++;
     if (number != PIONGSEUT_ACCEPTED) {
-        if (status == PIONGSEUT_CHECK_CONDITION) put_sense(wanted, 0x05, 0x24, 0x00);
+        if (status == PIONGSEUT_CHECK_CONDITION) put_sense(wanted, form, 0x05, 0x24, 0x00);
     } else if (protocol_of(command) == PIONGSEUT_PROTOCOL_RETURN_RESPONSE_INFORMATION) {
-        put_registers(wanted, 0x01, 0x1D, 0, registers);
+        put_registers(wanted, form, 0x01, 0x1D, 0, registers);
         reports++;
     } else {
         status = PIONGSEUT_NONE;
@@ -200,20 +230,21 @@ static int submission(piongseut_record *record, const uint8_t *registers)
 static int completion(piongseut_record *record, const uint8_t *registers)
 {
     uint8_t sense[SENSE], wanted[SENSE], status = PIONGSEUT_GOOD;
+    const uint8_t form = draw_form();
     memset(sense, FILL, SENSE);
     memset(wanted, FILL, SENSE);
-    const piongseut_complete_answer got = piongseut_complete(record, registers, PIONGSEUT_REGISTERS_SIZE, sense, SENSE);
+    const piongseut_complete_answer got = piongseut_complete(record, registers, PIONGSEUT_REGISTERS_SIZE, form, sense, SENSE);
     const uint8_t number = pending ? PIONGSEUT_ACCEPTED : PIONGSEUT_REFUSED_NOTHING_PENDING;
     if (!pending) {
         status = PIONGSEUT_NONE;
         seen[number]++;
     } else if (registers[PIONGSEUT_REGISTER_STATUS] & 0x21) {
         status = PIONGSEUT_CHECK_CONDITION;
-        put_registers(wanted, 0x0B, 0x00, held.extend, registers);
+        put_registers(wanted, form, 0x0B, 0x00, held.extend, registers);
         completions[0]++;
     } else if (held.ck_cond) {
         status = PIONGSEUT_CHECK_CONDITION;
-        put_registers(wanted, 0x01, 0x1D, held.extend, registers);
+        put_registers(wanted, form, 0x01, 0x1D, held.extend, registers);
         completions[1]++;
     } else {
         completions[2]++;
@@ -228,7 +259,7 @@ static int shown_all(void)
     if (seen[PIONGSEUT_REFUSED_FIELD] == 0) return 0;
     for (int number = PIONGSEUT_REFUSED_PROTOCOL; number <= PIONGSEUT_REFUSED_NOTHING_PENDING; number++)
         if (seen[number] == 0) return 0;
-    return taken_orders && reports && resets && completions[0] && completions[1] && completions[2];
+    return taken_orders && reports && resets && completions[0] && completions[1] && completions[2] && told[0] && told[1];
 }
 
 int main(int count, char **words)
@@ -237,7 +268,7 @@ int main(int count, char **words)
     piongseut_record record = piongseut_record_empty();
     for (long step = 0; step < steps; step++) {
         uint8_t registers[PIONGSEUT_REGISTERS_SIZE];
-        for (int at = 0; at < PIONGSEUT_REGISTERS_SIZE; at++) registers[at] = (uint8_t)roll(256);
+        for (int at = 0; at < PIONGSEUT_REGISTERS_SIZE; at++) registers[at] = (uint8_t)(roll(3) ? roll(256) : 0);
         if (roll(3)) registers[PIONGSEUT_REGISTER_STATUS] &= 0xDE;
         int agreed = 1;
         if (roll(50) == 0) { /* the host resets the board */
@@ -256,7 +287,8 @@ int main(int count, char **words)
         printf("not ok the run leaves out something that it is there to show\n");
         return 1;
     }
-    printf("ok %ld steps through one lent record: %u orders, %u reports, %u busy, %u errors, %u resets\n", steps, taken_orders,
-           reports, seen[PIONGSEUT_REFUSED_PENDING], completions[0], resets);
+    printf("ok %ld steps through one lent record: %u orders, %u reports, %u busy, %u errors, %u resets, %u fixed and %u descriptor "
+           "sense\n",
+           steps, taken_orders, reports, seen[PIONGSEUT_REFUSED_PENDING], completions[0], resets, told[1], told[0]);
     return 0;
 }

@@ -64,7 +64,7 @@ static void version(void)
 static piongseut_inquiry_answer ask(const uint8_t *command, size_t size, const uint8_t *reply, size_t reply_size)
 {
     return piongseut_inquiry(command, size, block, sizeof block, signature, sizeof signature, texts, sizeof texts, reply,
-                             reply_size, room, sizeof room, sense, sizeof sense);
+                             reply_size, PIONGSEUT_SENSE_UNSTATED, room, sizeof room, sense, sizeof sense);
 }
 
 /* A refused INQUIRY with the sense of the table's row. */
@@ -126,7 +126,7 @@ static void page89(void)
     prepare();
     piongseut_inquiry_answer answer =
         piongseut_inquiry(command, sizeof command, block, sizeof block, signature, sizeof signature, texts, sizeof texts,
-                          texts, 0, room, PIONGSEUT_PAGE89_SIZE - 1, sense, sizeof sense);
+                          texts, 0, PIONGSEUT_SENSE_UNSTATED, room, PIONGSEUT_PAGE89_SIZE - 1, sense, sizeof sense);
     check(answer.number == PIONGSEUT_REFUSED_ROOM && answer.status == PIONGSEUT_NONE && untouched(room, sizeof room),
           "page 89h, room 571: 8");
     answer = ask(command, sizeof command, texts, 0);
@@ -168,7 +168,8 @@ static void c6_refused(unsigned at, uint8_t value, uint32_t declared, uint8_t nu
     prepare();
     command[at] = value;
     piongseut_submit_answer answer =
-        piongseut_submit(&record, command, sizeof command, registers, sizeof registers, declared, sense, sizeof sense);
+        piongseut_submit(&record, command, sizeof command, registers, sizeof registers, declared, PIONGSEUT_SENSE_UNSTATED, sense,
+                         sizeof sense);
     check(answer.number == number && answer.status == PIONGSEUT_CHECK_CONDITION &&
               memcmp(&answer.order, &empty.order, sizeof empty.order) == 0 && memcmp(&record, &empty, sizeof empty) == 0,
           what);
@@ -186,12 +187,12 @@ static void refused_orders(void)
 /* A command that is submitted to the record, with 512 bytes declared. */
 static piongseut_submit_answer submit(piongseut_record *record, const uint8_t *command, size_t size)
 {
-    return piongseut_submit(record, command, size, registers, sizeof registers, 512, sense, sizeof sense);
+    return piongseut_submit(record, command, size, registers, sizeof registers, 512, PIONGSEUT_SENSE_UNSTATED, sense, sizeof sense);
 }
 
 static piongseut_complete_answer complete(piongseut_record *record)
 {
-    return piongseut_complete(record, registers, sizeof registers, sense, sizeof sense);
+    return piongseut_complete(record, registers, sizeof registers, PIONGSEUT_SENSE_UNSTATED, sense, sizeof sense);
 }
 
 /* C6 is taken; then the record is busy, protocol 15 leaves it, and completion empties it. */
@@ -245,6 +246,67 @@ static void c12(void)
           "C12: completes with 22 sense bytes");
 }
 
+/* Whether the sense room begins with the fixed sense data that is wanted, and is untouched behind it. */
+static int fixed_sense(const uint8_t *wanted)
+{
+    return memcmp(sense, wanted, PIONGSEUT_FIXED_SENSE_SIZE) == 0 &&
+           untouched(sense + PIONGSEUT_FIXED_SENSE_SIZE, sizeof sense - PIONGSEUT_FIXED_SENSE_SIZE);
+}
+
+/* Refusals in the fixed form, C5 and C11. */
+static void fixed_refusals(void)
+{
+    static const uint8_t c5[6] = {0x12, 0x01, 0xB0, 0x00, 0xFF, 0x00};
+    static const uint8_t c11[12] = {0xA1, 0x04, 0x0E, 0x00, 0x01, 0x00, 0x00, 0x00, 0x00, 0xEC, 0x00, 0x00};
+    static const uint8_t wanted[PIONGSEUT_FIXED_SENSE_SIZE] = {0x70, 0, 0x05, 0, 0, 0, 0, 0x0A, 0, 0, 0, 0, 0x24, 0x00, 0, 0, 0, 0};
+    piongseut_record record = piongseut_record_empty();
+    prepare();
+    piongseut_inquiry_answer answer =
+        piongseut_inquiry(c5, sizeof c5, block, sizeof block, signature, sizeof signature, texts, sizeof texts, texts, 0,
+                          PIONGSEUT_SENSE_FIXED, room, sizeof room, sense, sizeof sense);
+    check(answer.number == PIONGSEUT_REFUSED_PAGE && answer.status == PIONGSEUT_CHECK_CONDITION && fixed_sense(wanted),
+          "C5 in the fixed form: 5, 18 sense bytes");
+    prepare();
+    piongseut_submit_answer taken = piongseut_submit(&record, c11, sizeof c11, registers, sizeof registers, 512,
+                                                     PIONGSEUT_SENSE_FIXED, sense, sizeof sense);
+    check(taken.number == PIONGSEUT_REFUSED_PROTOCOL && taken.status == PIONGSEUT_CHECK_CONDITION && fixed_sense(wanted),
+          "C11 in the fixed form: 9, 18 sense bytes");
+    prepare();
+    taken = piongseut_submit(&record, c11, sizeof c11, registers, sizeof registers, 512, 3, sense, sizeof sense);
+    check(taken.number == PIONGSEUT_REFUSED_PROTOCOL && sense[0] == 0x72 && untouched(sense + PIONGSEUT_REFUSAL_SENSE_SIZE, 16),
+          "a number that is no form: descriptor");
+    prepare();
+    taken = piongseut_submit(&record, c11, sizeof c11, registers, sizeof registers, 512, PIONGSEUT_SENSE_FIXED, sense,
+                             PIONGSEUT_SENSE_SIZE - 1);
+    check(taken.number == PIONGSEUT_REFUSED_SIZE && taken.status == PIONGSEUT_NONE && untouched(sense, sizeof sense),
+          "the fixed form in sense room of 21 bytes, 1");
+}
+
+/* The same registers in the fixed form: an order with EXTEND, and PROTOCOL 15, which has none. */
+static void fixed_places(const uint8_t *said)
+{
+    static const uint8_t command[16] = {0x85, PIONGSEUT_PROTOCOL_NON_DATA << 1 | 1, 0x20};
+    static const uint8_t report[12] = {0xA1, PIONGSEUT_PROTOCOL_RETURN_RESPONSE_INFORMATION << 1};
+    static const uint8_t with_extend[PIONGSEUT_FIXED_SENSE_SIZE] = {0x70, 0, 0x01, 1, 0x40, 10, 3, 0x0A, 0xE0,
+                                                                    5,    7, 9,    0, 0x1D, 0,  0, 0,    0};
+    static const uint8_t without[PIONGSEUT_FIXED_SENSE_SIZE] = {0x70, 0, 0x01, 1, 0x40, 10, 3, 0x0A, 0x00,
+                                                                5,    7, 9,    0, 0x1D, 0,  0, 0,    0};
+    const piongseut_record empty = piongseut_record_empty();
+    piongseut_record record = empty;
+    prepare();
+    piongseut_submit_answer answer = submit(&record, command, sizeof command);
+    piongseut_complete_answer ended =
+        piongseut_complete(&record, said, PIONGSEUT_REGISTERS_SIZE, PIONGSEUT_SENSE_FIXED, sense, sizeof sense);
+    check(answer.number == PIONGSEUT_ACCEPTED && ended.number == PIONGSEUT_ACCEPTED && ended.status == PIONGSEUT_CHECK_CONDITION &&
+              memcmp(&record, &empty, sizeof record) == 0 && fixed_sense(with_extend),
+          "the registers in the fixed form, with EXTEND");
+    prepare();
+    answer = piongseut_submit(&record, report, sizeof report, said, PIONGSEUT_REGISTERS_SIZE, 0, PIONGSEUT_SENSE_FIXED, sense,
+                              sizeof sense);
+    check(answer.number == PIONGSEUT_ACCEPTED && answer.status == PIONGSEUT_CHECK_CONDITION && fixed_sense(without),
+          "PROTOCOL 15 in the fixed form, without EXTEND");
+}
+
 /* Where the registers' bytes come to stand in the sense data: all different, and EXTEND so that none is left out. */
 static void register_places(void)
 {
@@ -265,10 +327,12 @@ static void register_places(void)
     said[PIONGSEUT_REGISTER_DEVICE] = 10;
     said[PIONGSEUT_REGISTER_STATUS] = 0x40;
     piongseut_submit_answer answer = submit(&record, command, sizeof command);
-    piongseut_complete_answer ended = piongseut_complete(&record, said, sizeof said, sense, sizeof sense);
+    piongseut_complete_answer ended =
+        piongseut_complete(&record, said, sizeof said, PIONGSEUT_SENSE_DESCRIPTOR, sense, sizeof sense);
     check(answer.number == PIONGSEUT_ACCEPTED && ended.number == PIONGSEUT_ACCEPTED &&
               memcmp(sense + REGISTERS_AT, wanted, sizeof wanted) == 0,
           "the registers stand in the rule book's order");
+    fixed_places(said);
 }
 
 static void longest_order(void)
@@ -278,12 +342,13 @@ static void longest_order(void)
     piongseut_record record = piongseut_record_empty();
     prepare();
     piongseut_submit_answer answer =
-        piongseut_submit(&record, command, sizeof command, registers, sizeof registers, UINT32_MAX, sense, sizeof sense);
+        piongseut_submit(&record, command, sizeof command, registers, sizeof registers, UINT32_MAX, PIONGSEUT_SENSE_UNSTATED,
+                         sense, sizeof sense);
     check(answer.number == PIONGSEUT_ACCEPTED && answer.order.length == 33553920 && answer.order.extend == 1,
           "EXTEND, count FFFFh: 33,553,920 bytes");
     record = piongseut_record_empty();
-    answer = piongseut_submit(&record, command, sizeof command, registers, PIONGSEUT_REGISTERS_SIZE - 1, UINT32_MAX, sense,
-                              sizeof sense);
+    answer = piongseut_submit(&record, command, sizeof command, registers, PIONGSEUT_REGISTERS_SIZE - 1, UINT32_MAX,
+                              PIONGSEUT_SENSE_UNSTATED, sense, sizeof sense);
     check(answer.number == PIONGSEUT_REFUSED_SIZE && answer.status == PIONGSEUT_NONE && record.state == PIONGSEUT_STATE_NOTHING,
           "ten registers, 1");
 }
@@ -456,7 +521,7 @@ static piongseut_inquiry_answer ask_intake(piongseut_intake intake, const uint8_
     piongseut_intake_block_answer its = piongseut_intake_block(intake, PIONGSEUT_BLOCK_SIZE);
     check(its.number == PIONGSEUT_ACCEPTED && its.count == whole, "the block of an intake: 512 bytes or none");
     return piongseut_inquiry(command, sizeof command, store, its.count, signature, sizeof signature, texts, sizeof texts, texts, 0,
-                             room, sizeof room, sense, sizeof sense);
+                             PIONGSEUT_SENSE_UNSTATED, room, sizeof room, sense, sizeof sense);
 }
 
 /* Pages from the complete intake, from one that lacks a byte, and no block of a wrong one. */
@@ -573,6 +638,7 @@ int main(void)
     one_order();
     c12();
     register_places();
+    fixed_refusals();
     longest_order();
     protocols();
     pages83();

@@ -33,7 +33,7 @@ static int asked(const uint8_t *block)
     memset(sense, FILL, sizeof sense);
     piongseut_inquiry_answer answer =
         piongseut_inquiry(command, sizeof command, block, PIONGSEUT_BLOCK_SIZE, signature, sizeof signature, texts, sizeof texts,
-                          texts, 0, room, sizeof room, sense, sizeof sense);
+                          texts, 0, PIONGSEUT_SENSE_UNSTATED, room, sizeof room, sense, sizeof sense);
     int refused = answer.number == DAMAGED && answer.status == PIONGSEUT_NONE && answer.shown == PIONGSEUT_SHOWN_ROOM &&
                   answer.count == 0 && memcmp(room, filled, sizeof room) == 0 && memcmp(sense, filled, sizeof sense) == 0;
     int served = answer.number == PIONGSEUT_ACCEPTED && answer.count == sizeof room &&
