@@ -59,7 +59,7 @@ static void inquire(bay *b, exchange *x)
     size_t replied = drive_inquiry(d, x->command, x->command_size, reply, sizeof reply);
     piongseut_inquiry_answer a = piongseut_inquiry(
         x->command, x->command_size, d->identify, d->identify_size, d->signature,
-        sizeof d->signature, texts, sizeof texts - 1, reply, replied, room, sizeof room,
+        sizeof d->signature, texts, sizeof texts - 1, reply, replied, d->form, room, sizeof room,
         x->sense, sizeof x->sense);
     x->number = a.number;
     x->status = a.status;
@@ -75,7 +75,7 @@ static void pass_through(bay *b, exchange *x)
     drive *d = &b->drive;
     piongseut_submit_answer s = piongseut_submit(
         &b->record, x->command, x->command_size, d->registers, sizeof d->registers,
-        (uint32_t)x->declared, x->sense, sizeof x->sense);
+        (uint32_t)x->declared, d->form, x->sense, sizeof x->sense);
     x->number = s.number;
     x->status = s.status;
     if (s.number != PIONGSEUT_ACCEPTED || s.status != PIONGSEUT_NONE)
@@ -87,7 +87,7 @@ static void pass_through(bay *b, exchange *x)
     if (fits)
         x->moved = drive_execute(d, &s.order, x->data);
     piongseut_complete_answer c = piongseut_complete(
-        &b->record, d->registers, sizeof d->registers, x->sense, sizeof x->sense);
+        &b->record, d->registers, sizeof d->registers, d->form, x->sense, sizeof x->sense);
     x->number = c.number;
     x->status = fits ? c.status : PIONGSEUT_NONE;
 }

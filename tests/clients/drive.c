@@ -102,6 +102,10 @@ static int property(drive *d, const char *folder, const char *key, const char *v
         d->loose = 1;
     else if (!strcmp(key, "kind") && !strcmp(value, "packet"))
         become_packet(d);
+    else if (!strcmp(key, "sense") && !strcmp(value, "fixed"))
+        d->form = PIONGSEUT_SENSE_FIXED;
+    else if (!strcmp(key, "sense") && !strcmp(value, "descriptor"))
+        d->form = PIONGSEUT_SENSE_DESCRIPTOR;
     else
         return -1;
     return 0;
@@ -136,6 +140,7 @@ int drive_describe(drive *d, const char *text, const char *folder, char *complai
     char line[256], key[16], value[128];
     memset(d, 0, sizeof *d);
     d->power = 0xFF;
+    d->form = PIONGSEUT_SENSE_UNSTATED;
     for (int number = 0; *text; number++) {
         size_t length = strcspn(text, "\n");
         snprintf(line, sizeof line, "%.*s", (int)length, text);

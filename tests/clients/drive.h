@@ -18,6 +18,7 @@ typedef struct {
     int failing;          /* SMART RETURN STATUS tells of a threshold passed */
     int smart_off;
     int loose;            /* on a loose cable: its IDENTIFY block arrives changed */
+    uint8_t form;         /* of the sense data that the host of this bay asks for */
 } drive;
 
 /* Makes the drive that a description tells of: after a first line that is skipped, one

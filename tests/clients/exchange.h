@@ -17,6 +17,7 @@ typedef struct {
     size_t moved;
 } exchange;
 
+/* In either form byte 7 says how many bytes are behind it. */
 static inline size_t sense_size(const exchange *x)
 {
     size_t size = x->status == PIONGSEUT_CHECK_CONDITION ? 8u + x->sense[7] : 0;

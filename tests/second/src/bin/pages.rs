@@ -41,6 +41,7 @@ fn line(
         signature,
         texts,
         &[],
+        second::sense::UNSTATED,
         &mut room,
         &mut sense,
     );
