@@ -9,7 +9,7 @@ use lib.ListN.{length}
 use borrow.Author.Tests.{eqb-true, eqb-false}
 use Rattle.rules.proofs.First.{silent}
 use Rattle.room.specs.Room.{written}
-use Rattle.sense.specs.Sense.{Told, registers as showing, isFixed, senseData}
+use Rattle.sense.specs.Sense.{Told, registers as showing, isFixed, fixedSense, descriptorSense, senseData}
 use Rattle.sense.specs.Refusal.{rowOf, refusedSense, good, busy, noStatus, checkCondition}
 use Rattle.sense.specs.Helpers.{Roomy}
 use Rattle.sense.proofs.Sense.{roomy-unless}
@@ -32,7 +32,7 @@ use Rattle.passthrough.specs.Complete as Complete
 use Rattle.passthrough.specs.Complete.{complete, failed, isSet}
 use Rattle.intake.specs.Intake.{wrongIntake, blockOf}
 use Rattle.received.specs.Received.{inquiryOf}
-use Rattle.demands.specs.Promises.{ToldAlike, FormsAgree, FormChangesOnlySense}
+use Rattle.demands.specs.Promises.{ToldAlike, FormsAgree, FormChangesOnlySense, UsualForm}
 
 -- A status without a key is none that tells sense data.
 untold-status : (ten : Bool) → cond ten busy noStatus ≡ checkCondition → ⊥
@@ -198,4 +198,17 @@ form-changes-only-sense =
       of-submit = λ p command registers declared form other sense. of-submit-rest p command registers declared form other sense (eqb (Submit.refusalOf p command registers declared (length sense)) 0) (eqb (protocol command) 15);
       of-complete = λ p registers form other sense. of-complete-rest p registers form other sense (eqb (Complete.refusalOf p registers (length sense)) 0);
       of-inquiry-from-intake = λ have store command signature texts reply form other room sense. of-intake-rest have store command signature texts reply form other room sense (wrongIntake have (length store));
+    }
+
+-- The entries know of a form by the sense data alone.
+pub usual-form : UsualForm
+unfolding isFixed senseData refusedSense inquiry submit complete inquiryOf
+usual-form =
+    record {
+      of-fixed = λ key asc ascq told. refl;
+      of-descriptor = λ key asc ascq told. refl;
+      of-inquiry = λ q room sense. refl;
+      of-submit = λ p command registers declared sense. refl;
+      of-complete = λ p registers sense. refl;
+      of-inquiry-from-intake = λ have store command signature texts reply room sense. refl;
     }

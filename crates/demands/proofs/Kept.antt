@@ -6,7 +6,7 @@ use Rattle.demands.proofs.Refusals.{refusals-change-nothing}
 use Rattle.demands.proofs.Soundings.{soundings-hold}
 use Rattle.demands.proofs.Inquiry.{within-allocation, cut-again, pages-of-inquiry}
 use Rattle.demands.proofs.Order.{direction-from-the-fields, only-the-command-differs, own-flags, completed-with-its-own-fields, none-taken-while-pending, protocol-15-keeps-the-record}
-use Rattle.demands.proofs.Forms.{forms-agree-everywhere, form-changes-only-sense}
+use Rattle.demands.proofs.Forms.{forms-agree-everywhere, form-changes-only-sense, usual-form}
 use Rattle.demands.proofs.Page83.{reads-back, accepted-is-written, writer-accepts, pages-of-the-writer}
 use Rattle.demands.proofs.Roll.{roll-accepts, roll-of-drives}
 use Rattle.demands.proofs.Damaged.{damaged-is-refused, carried-sum}
@@ -51,6 +51,7 @@ kept =
       protocol-15-keeps-the-record = protocol-15-keeps-the-record;
       forms-agree = forms-agree-everywhere;
       form-changes-only-sense = form-changes-only-sense;
+      usual-form = usual-form;
       reads-back = reads-back;
       accepted-is-written = accepted-is-written;
       same-drive-by-words = λ a b ba bb la lb. same-drive-by-words ba bb la lb;

@@ -12,7 +12,7 @@ use Rattle.rules.specs.Bits.{flag}
 use Rattle.room.specs.Room.{written}
 use Rattle.texts.specs.Text.{turned, spaced}
 use Rattle.checksum.specs.Checksum.{sumOf, damagedBy, damaged}
-use Rattle.sense.specs.Sense.{Told, isFixed, fixedSense, descriptorSense}
+use Rattle.sense.specs.Sense.{Told, isFixed, fixedSense, descriptorSense, unstated, fixed, descriptor, senseData}
 use Rattle.sense.specs.Refusal.{noStatus, checkCondition}
 use Rattle.sense.specs.Carried.{sensed, inFixed, inDescriptor}
 use Rattle.identify.specs.Block.{serial, model, name}
@@ -244,6 +244,15 @@ pub record FormChangesOnlySense : Type 0 where
   pub of-complete : (p : Pending) (registers : List ℕ) (form other : ℕ) (sense : List ℕ) → complete p registers form sense .completed ≡ complete p registers other sense .completed
   pub of-inquiry-from-intake : (have : ℕ) (store command signature texts reply : List ℕ) (form other : ℕ) (room sense : List ℕ) → (inquiryOf have store command signature texts reply form room sense .answer ≡ inquiryOf have store command signature texts reply other room sense .answer) × (inquiryOf have store command signature texts reply form room sense .room ≡ inquiryOf have store command signature texts reply other room sense .room)
 
+-- Where no form is stated the outcome is that of the fixed form, of every entry; and a form that is stated is the one that is written.
+pub record UsualForm : Type 0 where
+  pub of-fixed : (key asc ascq : ℕ) (told : Told) → senseData fixed key asc ascq told ≡ fixedSense key asc ascq told
+  pub of-descriptor : (key asc ascq : ℕ) (told : Told) → senseData descriptor key asc ascq told ≡ descriptorSense key asc ascq told
+  pub of-inquiry : (q : Request) (room sense : List ℕ) → inquiry q unstated room sense ≡ inquiry q fixed room sense
+  pub of-submit : (p : Pending) (command registers : List ℕ) (declared : ℕ) (sense : List ℕ) → submit p command registers declared unstated sense ≡ submit p command registers declared fixed sense
+  pub of-complete : (p : Pending) (registers sense : List ℕ) → complete p registers unstated sense ≡ complete p registers fixed sense
+  pub of-inquiry-from-intake : (have : ℕ) (store command signature texts reply room sense : List ℕ) → inquiryOf have store command signature texts reply unstated room sense ≡ inquiryOf have store command signature texts reply fixed room sense
+
 -- ## Demand 2: the reader of page 83h
 
 -- The page that the writer left at the room's start.
@@ -417,6 +426,7 @@ pub record Promises : Type 0 where
   pub protocol-15-keeps-the-record : Protocol15KeepsTheRecord
   pub forms-agree : FormsAgree
   pub form-changes-only-sense : FormChangesOnlySense
+  pub usual-form : UsualForm
   pub reads-back : ReadsBack
   pub accepted-is-written : AcceptedIsWritten
   pub same-drive-by-words : SameDriveByWords

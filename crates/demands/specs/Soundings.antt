@@ -7,7 +7,7 @@ use Prim.Native.Nat.{ℕ}
 use lib.Dec.{eqb}
 use lib.ListN.{length, drop, replicate}
 use Rattle.identify.specs.Drive.{equal}
-use Rattle.sense.specs.Sense.{unstated}
+use Rattle.sense.specs.Sense.{descriptor}
 use Rattle.sense.specs.Refusal.{rowOf, refusedSense, good, checkCondition, noStatus}
 use Rattle.inquiry_checks.specs.Request.{request}
 use Rattle.inquiry.specs.Inquiry.{inquiry, Outcome}
@@ -37,17 +37,17 @@ shows number status bytes o =
     && eqb (o .answer .shown) 1
     && eqb (o .answer .count) (length bytes)
     && equal (o .room) (bytes ++ drop (length bytes) room)
-    && equal (o .sense) (refusedSense unstated number senseRoom)
+    && equal (o .sense) (refusedSense descriptor number senseRoom)
 
 abbrev pub ask : List ℕ → Outcome
-ask command = inquiry (request command block0 (replicate 20 0x00) (replicate 28 0x00) []) unstated room senseRoom
+ask command = inquiry (request command block0 (replicate 20 0x00) (replicate 28 0x00) []) descriptor room senseRoom
 
 -- The registers of C12; and a command sent to an empty record.
 abbrev pub registers : List ℕ
 registers = 0x00 ∷ 0x00 ∷ 0xFF ∷ 0x00 ∷ 0x00 ∷ 0x00 ∷ 0x00 ∷ 0x00 ∷ 0x00 ∷ 0x00 ∷ 0x50 ∷ []
 
 abbrev pub send : List ℕ → ℕ → Submission
-send command declared = submit empty command registers declared unstated senseRoom
+send command declared = submit empty command registers declared descriptor senseRoom
 
 -- Every field of an order.
 abbrev pub fields : Order → List ℕ
@@ -74,7 +74,7 @@ refuses number o =
     && equal (fields (o .submitted .taken .order)) (fields noOrder)
     && eqb (o .submitted .next .state) 0
     && equal (fields (o .submitted .next .order)) (fields noOrder)
-    && equal (o .sense) (refusedSense unstated number senseRoom)
+    && equal (o .sense) (refusedSense descriptor number senseRoom)
 
 -- An order ended: its status and sense bytes, and the record empty.
 abbrev pub ends : ℕ → List ℕ → Completion → Bool
@@ -120,7 +120,7 @@ soundings =
     -- C12 accepted; and its registers complete as written
     ∷ takes 0 0 (send checkPower 0)
     ∷ ends checkCondition (0x72 ∷ 0x01 ∷ 0x00 ∷ 0x1D ∷ 0x00 ∷ 0x00 ∷ 0x00 ∷ 0x0E ∷ 0x09 ∷ 0x0C ∷ 0x00 ∷ 0x00 ∷ 0x00 ∷ 0xFF ∷ 0x00 ∷ 0x00 ∷ 0x00 ∷ 0x00 ∷ 0x00 ∷ 0x00 ∷ 0x00 ∷ 0x50 ∷ [])
-    (complete (send checkPower 0 .submitted .next) registers unstated senseRoom)
+    (complete (send checkPower 0 .submitted .next) registers descriptor senseRoom)
     -- EXTEND, count FFFFh in blocks: the longest length that a field can ask for
     ∷ takes 1 33553920 (send (0x85 ∷ 0x09 ∷ 0x0E ∷ 0x00 ∷ 0x00 ∷ 0xFF ∷ 0xFF ∷ replicate 9 0x00) 33553920)
     -- C13 no command bytes, of either entry

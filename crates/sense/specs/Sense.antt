@@ -17,9 +17,9 @@ fixed = 1
 abbrev pub descriptor : ℕ
 descriptor = 2
 
--- Where none is stated, sense data are in the descriptor form.
+-- Fixed is the usual form: sense data are in the descriptor form only where the caller asks for that.
 unfoldable pub isFixed : ℕ → Bool
-isFixed form = eqb form fixed
+isFixed form = not (eqb form descriptor)
 
 -- What stands beside key, ASC and ASCQ: nothing, or the registers that the drive left, with EXTEND.
 pub data Told : Type 0 where

@@ -54,7 +54,7 @@ const TABLE: [[u8; 3]; 17] = [
 fn is_fixed(form: u8) -> bool
     ensures { λ r. ⌜ r ≡ isFixed form ⌝ }
 {
-    form == FIXED
+    form != DESCRIPTOR
 }
 
 // The eight bytes that tell key, ASC and ASCQ alone in the descriptor form.

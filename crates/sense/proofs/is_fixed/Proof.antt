@@ -1,4 +1,4 @@
--- `is_fixed`: the one number that asks for it.
+-- `is_fixed`: every number but the one that asks for descriptors.
 use mathlib.Core.Path.{refl}
 use Rattle.sense.specs.Sense.{isFixed}
 use Rattle.sense.proofs.is_fixed.Statement.{statement}
