@@ -8,7 +8,7 @@ use lib.ListN.{length, getD}
 use borrow.Author.Tests.{eq-eqb}
 use Rattle.room.specs.Room.{written}
 use Rattle.sense.specs.Refusal.{rowOf, refusedSense, checkCondition}
-use Rattle.sense.specs.Sense.{unstated, isFixed, descriptorSense, senseData, registers as showing}
+use Rattle.sense.specs.Sense.{descriptor, isFixed, descriptorSense, senseData, registers as showing}
 use Rattle.passthrough_order.specs.Order.{orderOf}
 use Rattle.passthrough_fields.specs.Length.{lengthOf}
 use Rattle.passthrough_checks.specs.Checks as Check
@@ -51,25 +51,25 @@ module _ (pending : Pending) (registers : List ℕ) where
   unfolding Check.refusalOf lengthOf
   number-0 s f = rw (s, f)
 
-  refused-as : (n : ℕ) → eqb n 0 ≡ false → told n (rowOf n .status) (refusedSense unstated n noSense) ≡ valuesOf (Refused n) → refusal pending registers ≡ n → valuesOf (asked pending registers .said) ≡ given pending registers
+  refused-as : (n : ℕ) → eqb n 0 ≡ false → told n (rowOf n .status) (refusedSense descriptor n noSense) ≡ valuesOf (Refused n) → refusal pending registers ≡ n → valuesOf (asked pending registers .said) ≡ given pending registers
   unfolding submit asked given
   refused-as n z t e =
-      let s : submit pending returnStatus registers 0 unstated noSense ≡ Submit.refused pending unstated n noSense = rw (e, z) in
+      let s : submit pending returnStatus registers 0 descriptor noSense ≡ Submit.refused pending descriptor n noSense = rw (e, z) in
       rw (s, z) (sym t)
 
-  taken-as : refusal pending registers ≡ 0 → submit pending returnStatus registers 0 unstated noSense ≡ Submit.taken (orderOf returnStatus 0) noSense
+  taken-as : refusal pending registers ≡ 0 → submit pending returnStatus registers 0 descriptor noSense ≡ Submit.taken (orderOf returnStatus 0) noSense
   unfolding submit
   taken-as e = rw e
 
 -- The order as it ends with all its registers, with an error or without: the record is empty, and the sense data tell them.
 endSense : Bool → List ℕ → List ℕ
-endSense error registers = written noSense 0 (senseData unstated (cond error 0x0B 0x01) 0x00 (cond error 0x00 0x1D) (showing false registers))
+endSense error registers = written noSense 0 (senseData descriptor (cond error 0x0B 0x01) 0x00 (cond error 0x00 0x1D) (showing false registers))
 
 answered : Bool → List ℕ → Asked
 answered error registers = answer empty (cond error (Error (getD registers 0 0)) (verdictOf (getD registers 6 0) (getD registers 8 0)))
 
 module _ (registers : List ℕ) (sized : eqb (length registers) 11 ≡ true) where
-  completed-as : (error : Bool) → failed registers ≡ error → complete (holding (orderOf returnStatus 0)) registers unstated noSense ≡ Complete.outcome (Complete.answer empty 0 checkCondition) (endSense error registers)
+  completed-as : (error : Bool) → failed registers ≡ error → complete (holding (orderOf returnStatus 0)) registers descriptor noSense ≡ Complete.outcome (Complete.answer empty 0 checkCondition) (endSense error registers)
   unfolding orderOf Complete.refusalOf complete endSense
   completed-as true e = rw (sized, e)
   completed-as false e = rw (sized, e)
@@ -79,7 +79,7 @@ module _ (registers : List ℕ) (sized : eqb (length registers) 11 ≡ true) whe
   said-as true e = rw (completed-as true e)
   said-as false e = rw (completed-as false e)
 
-  told-as : (error : Bool) → failed registers ≡ error → givenAtEnd (complete (holding (orderOf returnStatus 0)) registers unstated noSense) ≡ values 0 checkCondition (cond error 0x0B 0x01) (cond error (getD registers 0 0) 0x00)
+  told-as : (error : Bool) → failed registers ≡ error → givenAtEnd (complete (holding (orderOf returnStatus 0)) registers descriptor noSense) ≡ values 0 checkCondition (cond error 0x0B 0x01) (cond error (getD registers 0 0) 0x00)
   unfolding senseData isFixed descriptorSense endSense
   told-as true e = rw (completed-as true e)
   told-as false e = rw (completed-as false e)

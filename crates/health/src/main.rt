@@ -94,7 +94,7 @@ fn end(pending: Pending, registers: &[u8]) -> Asked
     ensures { λ r. ⌜ r ≡ ended pending (now (registers .entry)) ⌝ }
 {
     let mut sense = [0u8; 22];
-    let completed = pending.complete(registers, sense::UNSTATED, &mut sense);
+    let completed = pending.complete(registers, sense::DESCRIPTOR, &mut sense);
     let next = completed.next;
     let number = completed.ended.number;
     if number != 0 {
@@ -115,7 +115,13 @@ fn ask(pending: Pending, registers: &[u8]) -> Asked
     ensures values { λ r. ⌜ valuesOf (r .said) ≡ given pending (now (registers .entry)) ⌝ }
 {
     let mut sense = [0u8; 22];
-    let submitted = pending.submit(&return_status(), registers, 0, sense::UNSTATED, &mut sense);
+    let submitted = pending.submit(
+        &return_status(),
+        registers,
+        0,
+        sense::DESCRIPTOR,
+        &mut sense,
+    );
     let next = submitted.next;
     let number = submitted.taken.number;
     if number != 0 {
