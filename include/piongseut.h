@@ -94,7 +94,9 @@ extern "C" {
 #define PIONGSEUT_SENSE_SIZE 22
 
 /*
- * The form of sense data that a caller asks for. UNSTATED, and every number that is none of these, gets descriptors.
+ * The form of sense data that a caller asks for. UNSTATED, and every number that is none of these, gets the fixed form. A bridge whose
+ * host reads the registers of ended commands with hdparm, sg_sat_* and their like asks for DESCRIPTOR: they find no registers in the
+ * fixed form (docs/CLIENTS.md).
  *  - Descriptor: 72h, key, ASC, ASCQ, 00 00 00 and how many bytes follow; after a refusal none, so that it is 8 bytes; completion and
  *    PROTOCOL 15 tell the registers in a descriptor of 14 behind them, so that it is 22.
  *  - Fixed, always 18: byte 0 is 70h, 2 the key, 7 is 0Ah, 12 and 13 are ASC and ASCQ. Where registers are told, bytes 3 to 6 are error,

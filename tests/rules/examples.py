@@ -12,7 +12,7 @@ import sys
 FILL = 0xEE
 ROW_FILL = 0xEEEE
 START = {"block": "512 zero", "signature": "20 zero", "texts": "28 zero", "registers": "11 zero", "reply": "none", "declared": "0",
-         "form": "0", "room": "600", "sense room": "24", "rows": "64", "run": "none"}
+         "form": "2", "room": "600", "sense room": "24", "rows": "64", "run": "none"}
 OTHER_NAMES = ("command", "page", "blocks", "input", "haves", "stores", "have", "census")
 PROGRAMS = ("rollcall", "census")
 
@@ -156,7 +156,7 @@ def coded(codes, form):
     """The sense data of section 10 that tell key, ASC and ASCQ alone; none where a row has no key."""
     if not codes:
         return b""
-    if form == 1:
+    if form != 2:
         return b"\x70\x00" + codes[:1] + bytes(4) + b"\x0A" + bytes(4) + codes[1:] + bytes(4)
     return b"\x72" + codes + bytes(4)
 
