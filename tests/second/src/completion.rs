@@ -34,7 +34,11 @@ fn form_for(record: &Record, form: u8) -> u8 {
     if fault::planted("form-kept-in-the-record") || fault::planted("form-of-the-last-order") {
         return order::kept_form(record);
     }
-    stated(form, "form-not-asked-by-complete")
+    stated(
+        form,
+        "form-not-asked-by-complete",
+        "form-default-not-of-complete",
+    )
 }
 
 /// An error of the drive is told whether or not the host asked for the

@@ -219,7 +219,11 @@ fn accept(shown: u8, count: usize) -> Inquiry {
 
 /// A refusal shows none of the room's bytes (RULES 2).
 fn refuse(number: u8, form: u8, sense: &mut [u8]) -> Inquiry {
-    let form = stated(form, "form-not-asked-by-inquiry");
+    let form = stated(
+        form,
+        "form-not-asked-by-inquiry",
+        "form-default-not-of-inquiry",
+    );
     write_refusal(number, form, sense);
     Inquiry {
         number,

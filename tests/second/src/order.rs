@@ -162,7 +162,11 @@ fn take(order: Order) -> Taken {
 
 /// A refusal has an order of zeros (RULES 2).
 fn refuse(number: u8, form: u8, sense: &mut [u8]) -> Taken {
-    let form = stated(form, "form-not-asked-by-submit");
+    let form = stated(
+        form,
+        "form-not-asked-by-submit",
+        "form-default-not-of-submit",
+    );
     write_refusal(number, form, sense);
     Taken {
         number,
@@ -178,7 +182,11 @@ fn return_response(registers: &[u8], form: u8, sense: &mut [u8]) -> Taken {
         extend: false,
         registers,
     };
-    let form = stated(form, "form-not-asked-by-protocol-15");
+    let form = stated(
+        form,
+        "form-not-asked-by-protocol-15",
+        "form-default-not-of-protocol-15",
+    );
     write_report([0x01, 0x00, 0x1D], report, form, sense);
     Taken {
         number: refusal::ACCEPTED,

@@ -3,7 +3,7 @@
 use crate::{fault, refusal};
 
 /// The numbers that state a form. Every other number states none, as 0 does,
-/// and then the form is descriptor.
+/// and then the form is fixed.
 pub const UNSTATED: u8 = 0;
 pub const FIXED: u8 = 1;
 pub const DESCRIPTOR: u8 = 2;
@@ -42,17 +42,23 @@ pub fn write_report(codes: Codes, report: Report, form: u8, sense: &mut [u8]) {
     }
 }
 
-/// Whether this number states the fixed form. And the planted faults of that.
+/// Whether this number comes to the fixed form. And the planted faults of that.
 fn is_fixed(form: u8) -> bool {
-    let wrongly = (fault::planted("form-unstated-is-fixed") && form == UNSTATED)
-        || (fault::planted("form-of-another-number-is-fixed") && form > DESCRIPTOR)
-        || (fault::planted("form-by-its-lowest-bit") && form & 1 == 1);
-    form == FIXED || wrongly
+    let wrongly = (fault::planted("form-unstated-is-descriptor") && form == UNSTATED)
+        || (fault::planted("form-of-another-number-is-descriptor") && form > DESCRIPTOR)
+        || (fault::planted("form-descriptor-is-fixed") && form == DESCRIPTOR)
+        || (fault::planted("form-by-its-lowest-bit") && form != DESCRIPTOR && form & 1 == 0)
+        || (fault::planted("form-by-its-second-bit") && form != DESCRIPTOR && form & 2 == 2);
+    (form != DESCRIPTOR) != wrongly
 }
 
-/// The form that a caller states, but for the planted fault of this name.
-pub fn stated(form: u8, fault: &str) -> u8 {
-    if fault::planted(fault) {
+/// The form that a caller states, but for two planted faults: that an entry
+/// does not ask for it, and that it has a default of its own.
+pub fn stated(form: u8, not_asked: &str, own_default: &str) -> u8 {
+    if fault::planted(not_asked) {
+        return UNSTATED;
+    }
+    if fault::planted(own_default) && form == UNSTATED {
         return DESCRIPTOR;
     }
     form

@@ -189,7 +189,7 @@ fn protocol_15() {
         Pass::new(&command_12(0x1E, 0x00)),
         Pass::new(&command_16(0x1F, 0xFF)).pending(),
     ] {
-        let pass = pass.declared(0).registers(&RESPONSE);
+        let pass = pass.declared(0).registers(&RESPONSE).form(2);
         let (taken, record, sense) = pass.run();
         assert_eq!((taken.number, taken.status), (0, 0x02));
         assert_eq!(taken.order, Order::default());

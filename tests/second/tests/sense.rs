@@ -30,6 +30,7 @@ fn told(form: u8, record: Record, registers: [u8; 11]) -> Vec<u8> {
     sense
 }
 
+/// Stated, and where none is.
 #[test]
 fn c12_in_the_fixed_form() {
     let (_, record, _) = Pass::new(&C12).declared(0).run();
@@ -37,7 +38,9 @@ fn c12_in_the_fixed_form() {
         0x70, 0x00, 0x01, 0x00, 0x50, 0x00, 0xFF, 0x0A, 0x00, 0x00, 0x00, 0x00, 0x00, 0x1D, 0x00,
         0x00, 0x00, 0x00,
     ];
-    check_sense(&wanted, &told(1, record, REGISTERS));
+    for form in [1, 0, 3] {
+        check_sense(&wanted, &told(form, record, REGISTERS));
+    }
 }
 
 #[test]
@@ -88,15 +91,15 @@ fn protocol_15_in_the_fixed_form() {
     }
 }
 
-/// 1 states fixed; what every other number states is descriptor.
+/// 2 states descriptor; what every other number comes to is fixed.
 #[test]
 fn every_number_of_a_form() {
     let report = [0xA1, 0x1E, 0, 0, 0, 0, 0, 0, 0, 0, 0, 0];
     for form in 0..=0xFF {
-        let (code, sizes) = if form == 1 {
-            (0x70, [18, 18])
-        } else {
+        let (code, sizes) = if form == 2 {
             (0x72, [8, 22])
+        } else {
+            (0x70, [18, 18])
         };
         let senses = [
             (Ask::new(&[]).form(form).run().2, sizes[0]),
@@ -137,7 +140,7 @@ fn the_record_holds_no_form() {
     for pass in Pass::new(&C12).in_each_form() {
         let (_, record, _) = pass.run();
         for form in FORMS {
-            let code = if form == 1 { 0x70 } else { 0x72 };
+            let code = if form == 2 { 0x72 } else { 0x70 };
             assert_eq!(told(form, record, REGISTERS)[0], code);
         }
     }

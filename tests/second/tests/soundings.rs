@@ -67,10 +67,10 @@ fn c11_protocol_2() {
 }
 
 #[test]
-fn c12_check_power_mode() {
-    let (taken, mut record, _) = Pass::new(&C12).declared(0).run();
+fn c12_check_power_mode_in_the_descriptor_form() {
+    let (taken, mut record, _) = Pass::new(&C12).declared(0).form(2).run();
     assert_eq!((taken.number, taken.status), (0, 0xFF));
-    let (ended, sense) = end(&mut record, &REGISTERS, 30);
+    let (ended, sense) = end_in_form(2, &mut record, &REGISTERS, 30);
     assert_eq!(
         ended,
         Ended {
@@ -180,11 +180,11 @@ fn rollcall_empty_and_refused() {
 fn published_status_return() {
     let mut command = [0; 16];
     command[..3].copy_from_slice(&[0x85, 0x07, 0x20]);
-    let (_, mut record, _) = Pass::new(&command).declared(0).run();
+    let (_, mut record, _) = Pass::new(&command).declared(0).form(2).run();
     let registers = [
         0x00, 0x11, 0x22, 0x66, 0x33, 0x77, 0x44, 0x88, 0x55, 0x01, 0x02,
     ];
-    let (_, sense) = end(&mut record, &registers, 22);
+    let (_, sense) = end_in_form(2, &mut record, &registers, 22);
     let published = [
         0x00, 0x00, 0x00, 0x0E, 0x09, 0x0C, 0x01, 0x00, 0x11, 0x22, 0x66, 0x33, 0x77, 0x44, 0x88,
         0x55, 0x01, 0x02,

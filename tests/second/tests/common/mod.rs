@@ -295,9 +295,9 @@ impl Pass {
     }
 }
 
-/// Completes with sense room of the given size, and states no form.
+/// Completes with sense room of the given size, in the descriptor form.
 pub fn end(record: &mut Record, registers: &[u8], size: usize) -> (Ended, Vec<u8>) {
-    end_in_form(0, record, registers, size)
+    end_in_form(2, record, registers, size)
 }
 
 /// Completes with sense room of the given size.
@@ -367,13 +367,13 @@ pub fn row(number: u8) -> (u8, Option<[u8; 3]>) {
 pub fn check_refusal_sense(number: u8, form: u8, sense: &[u8]) {
     match (row(number).1, form) {
         (None, _) => check_sense(&[], sense),
-        (Some([key, asc, ascq]), 1) => check_sense(
+        (Some([key, asc, ascq]), 2) => check_sense(&[0x72, key, asc, ascq, 0, 0, 0, 0], sense),
+        (Some([key, asc, ascq]), _) => check_sense(
             &[
                 0x70, 0, key, 0, 0, 0, 0, 0x0A, 0, 0, 0, 0, asc, ascq, 0, 0, 0, 0,
             ],
             sense,
         ),
-        (Some([key, asc, ascq]), _) => check_sense(&[0x72, key, asc, ascq, 0, 0, 0, 0], sense),
     }
 }
 

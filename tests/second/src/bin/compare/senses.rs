@@ -132,7 +132,7 @@ pub fn orders(board: &mut Board) {
     }
 }
 
-/// Random calls, each made in the fixed form and in the descriptor form, whether
+/// Random calls, each made in the descriptor form and in the fixed form, whether
 /// stated or not: whether what comes back and all that is lent but for the sense
 /// room are the same, and both sense rooms tell the same.
 pub fn both(board: &mut Board, seed: u64, real: &[Vec<u8>]) -> bool {
@@ -141,9 +141,9 @@ pub fn both(board: &mut Board, seed: u64, real: &[Vec<u8>]) -> bool {
     for _ in 0..30_000 {
         let call = a_call(&mut numbers, real);
         let last = call.pieces.len() - 1;
-        let (fixed, its_sense) = left(board, &call, FIXED);
-        let other = numbers.pick(&[UNSTATED, DESCRIPTOR, 3, 0xFF]);
-        let (descriptor, sense) = left(board, &call, other);
+        let form = numbers.pick(&[UNSTATED, FIXED, 3, 0xFF]);
+        let (fixed, its_sense) = left(board, &call, form);
+        let (descriptor, sense) = left(board, &call, DESCRIPTOR);
         let lent = &call.pieces[last];
         let untouched = its_sense == *lent && sense == *lent;
         if fixed != descriptor || !untouched && !tell_the_same(&its_sense, &sense, lent) {

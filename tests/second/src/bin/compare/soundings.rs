@@ -4,8 +4,9 @@ use crate::board::Board;
 use crate::call::{Call, EMPTY};
 use crate::lent::{self, packet, room};
 use crate::rolls;
+use second::sense::DESCRIPTOR;
 
-/// C1 to C13, with no form stated, as they stand, and in each form.
+/// C1 to C13, with no form stated and in each form.
 pub fn numbered(board: &mut Board) {
     [0, 1, 2].iter().for_each(|&form| in_form(board, form));
 }
@@ -66,7 +67,8 @@ pub fn published(board: &mut Board) {
     let registers = [
         0x00, 0x11, 0x22, 0x66, 0x33, 0x77, 0x44, 0x88, 0x55, 0x01, 0x02,
     ];
-    board.call(&lent::complete(record, 0x02).piece(0, registers.to_vec()));
+    let call = lent::complete(record, 0x02).piece(0, registers.to_vec());
+    board.call(&call.form(DESCRIPTOR));
     let mut block = lent::block_0();
     block[216..224].copy_from_slice(&[0x00, 0x50, 0x00, 0xC5, 0x11, 0x30, 0x2B, 0xCB]);
     board.call(&lent::inquiry_page(0x83, 255).piece(1, block));
