@@ -27,7 +27,7 @@ static unsigned roll(unsigned below)
     return (unsigned)((seed >> 32) % below);
 }
 
-/* A form of sense data: each of the three, and numbers that state none. */
+/* A form of sense data: each of the three, and numbers that are none of them. */
 static uint8_t draw_form(void)
 {
     return (uint8_t)(roll(4) ? roll(3) : roll(256));
@@ -35,7 +35,7 @@ static uint8_t draw_form(void)
 
 static void put_sense(uint8_t *sense, uint8_t form, uint8_t key, uint8_t asc, uint8_t ascq)
 {
-    const int fixed = form == PIONGSEUT_SENSE_FIXED;
+    const int fixed = form != PIONGSEUT_SENSE_DESCRIPTOR;
     memset(sense, 0, fixed ? PIONGSEUT_FIXED_SENSE_SIZE : PIONGSEUT_REFUSAL_SENSE_SIZE);
     told[fixed]++;
     sense[0] = fixed ? 0x70 : 0x72;
@@ -65,7 +65,7 @@ static void put_fixed_registers(uint8_t *sense, uint8_t extend, const uint8_t *r
 static void put_registers(uint8_t *sense, uint8_t form, uint8_t key, uint8_t ascq, uint8_t extend, const uint8_t *registers)
 {
     put_sense(sense, form, key, 0, ascq);
-    if (form == PIONGSEUT_SENSE_FIXED) {
+    if (form != PIONGSEUT_SENSE_DESCRIPTOR) {
         put_fixed_registers(sense, extend, registers);
         return;
     }

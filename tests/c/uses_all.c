@@ -64,7 +64,7 @@ static void version(void)
 static piongseut_inquiry_answer ask(const uint8_t *command, size_t size, const uint8_t *reply, size_t reply_size)
 {
     return piongseut_inquiry(command, size, block, sizeof block, signature, sizeof signature, texts, sizeof texts, reply,
-                             reply_size, PIONGSEUT_SENSE_UNSTATED, room, sizeof room, sense, sizeof sense);
+                             reply_size, PIONGSEUT_SENSE_DESCRIPTOR, room, sizeof room, sense, sizeof sense);
 }
 
 /* A refused INQUIRY with the sense of the table's row. */
@@ -187,12 +187,13 @@ static void refused_orders(void)
 /* A command that is submitted to the record, with 512 bytes declared. */
 static piongseut_submit_answer submit(piongseut_record *record, const uint8_t *command, size_t size)
 {
-    return piongseut_submit(record, command, size, registers, sizeof registers, 512, PIONGSEUT_SENSE_UNSTATED, sense, sizeof sense);
+    return piongseut_submit(record, command, size, registers, sizeof registers, 512, PIONGSEUT_SENSE_DESCRIPTOR, sense,
+                            sizeof sense);
 }
 
 static piongseut_complete_answer complete(piongseut_record *record)
 {
-    return piongseut_complete(record, registers, sizeof registers, PIONGSEUT_SENSE_UNSTATED, sense, sizeof sense);
+    return piongseut_complete(record, registers, sizeof registers, PIONGSEUT_SENSE_DESCRIPTOR, sense, sizeof sense);
 }
 
 /* C6 is taken; then the record is busy, protocol 15 leaves it, and completion empties it. */
@@ -243,7 +244,7 @@ static void c12(void)
     piongseut_complete_answer ended = complete(&record);
     check(ended.number == PIONGSEUT_ACCEPTED && ended.status == PIONGSEUT_CHECK_CONDITION &&
               memcmp(sense, wanted, sizeof wanted) == 0 && untouched(sense + sizeof wanted, sizeof sense - sizeof wanted),
-          "C12: completes with 22 sense bytes");
+          "C12, descriptors asked for: completes with 22 sense bytes");
 }
 
 /* Whether the sense room begins with the fixed sense data that is wanted, and is untouched behind it. */
@@ -253,8 +254,8 @@ static int fixed_sense(const uint8_t *wanted)
            untouched(sense + PIONGSEUT_FIXED_SENSE_SIZE, sizeof sense - PIONGSEUT_FIXED_SENSE_SIZE);
 }
 
-/* Refusals in the fixed form, C5 and C11. */
-static void fixed_refusals(void)
+/* C5 and C11 with a number that comes to the fixed form. */
+static void refused_in_fixed(uint8_t form, const char *inquiry, const char *submission)
 {
     static const uint8_t c5[6] = {0x12, 0x01, 0xB0, 0x00, 0xFF, 0x00};
     static const uint8_t c11[12] = {0xA1, 0x04, 0x0E, 0x00, 0x01, 0x00, 0x00, 0x00, 0x00, 0xEC, 0x00, 0x00};
@@ -263,27 +264,28 @@ static void fixed_refusals(void)
     prepare();
     piongseut_inquiry_answer answer =
         piongseut_inquiry(c5, sizeof c5, block, sizeof block, signature, sizeof signature, texts, sizeof texts, texts, 0,
-                          PIONGSEUT_SENSE_FIXED, room, sizeof room, sense, sizeof sense);
-    check(answer.number == PIONGSEUT_REFUSED_PAGE && answer.status == PIONGSEUT_CHECK_CONDITION && fixed_sense(wanted),
-          "C5 in the fixed form: 5, 18 sense bytes");
+                          form, room, sizeof room, sense, sizeof sense);
+    check(answer.number == PIONGSEUT_REFUSED_PAGE && answer.status == PIONGSEUT_CHECK_CONDITION && fixed_sense(wanted), inquiry);
     prepare();
-    piongseut_submit_answer taken = piongseut_submit(&record, c11, sizeof c11, registers, sizeof registers, 512,
-                                                     PIONGSEUT_SENSE_FIXED, sense, sizeof sense);
-    check(taken.number == PIONGSEUT_REFUSED_PROTOCOL && taken.status == PIONGSEUT_CHECK_CONDITION && fixed_sense(wanted),
-          "C11 in the fixed form: 9, 18 sense bytes");
+    piongseut_submit_answer taken =
+        piongseut_submit(&record, c11, sizeof c11, registers, sizeof registers, 512, form, sense, sizeof sense);
+    check(taken.number == PIONGSEUT_REFUSED_PROTOCOL && taken.status == PIONGSEUT_CHECK_CONDITION && fixed_sense(wanted), submission);
     prepare();
-    taken = piongseut_submit(&record, c11, sizeof c11, registers, sizeof registers, 512, 3, sense, sizeof sense);
-    check(taken.number == PIONGSEUT_REFUSED_PROTOCOL && sense[0] == 0x72 && untouched(sense + PIONGSEUT_REFUSAL_SENSE_SIZE, 16),
-          "a number that is no form: descriptor");
-    prepare();
-    taken = piongseut_submit(&record, c11, sizeof c11, registers, sizeof registers, 512, PIONGSEUT_SENSE_FIXED, sense,
-                             PIONGSEUT_SENSE_SIZE - 1);
+    taken = piongseut_submit(&record, c11, sizeof c11, registers, sizeof registers, 512, form, sense, PIONGSEUT_SENSE_SIZE - 1);
     check(taken.number == PIONGSEUT_REFUSED_SIZE && taken.status == PIONGSEUT_NONE && untouched(sense, sizeof sense),
           "the fixed form in sense room of 21 bytes, 1");
 }
 
+/* Fixed is stated, or it is what comes where no form is. */
+static void fixed_refusals(void)
+{
+    refused_in_fixed(PIONGSEUT_SENSE_FIXED, "C5 in the fixed form: 5, 18 sense bytes", "C11 in the fixed form: 9, 18 sense bytes");
+    refused_in_fixed(PIONGSEUT_SENSE_UNSTATED, "C5, no form stated: fixed", "C11, no form stated: fixed");
+    refused_in_fixed(3, "C5, a number that is no form: fixed", "C11, a number that is no form: fixed");
+}
+
 /* The same registers in the fixed form: an order with EXTEND, and PROTOCOL 15, which has none. */
-static void fixed_places(const uint8_t *said)
+static void fixed_places(uint8_t form, const uint8_t *said)
 {
     static const uint8_t command[16] = {0x85, PIONGSEUT_PROTOCOL_NON_DATA << 1 | 1, 0x20};
     static const uint8_t report[12] = {0xA1, PIONGSEUT_PROTOCOL_RETURN_RESPONSE_INFORMATION << 1};
@@ -296,13 +298,12 @@ static void fixed_places(const uint8_t *said)
     prepare();
     piongseut_submit_answer answer = submit(&record, command, sizeof command);
     piongseut_complete_answer ended =
-        piongseut_complete(&record, said, PIONGSEUT_REGISTERS_SIZE, PIONGSEUT_SENSE_FIXED, sense, sizeof sense);
+        piongseut_complete(&record, said, PIONGSEUT_REGISTERS_SIZE, form, sense, sizeof sense);
     check(answer.number == PIONGSEUT_ACCEPTED && ended.number == PIONGSEUT_ACCEPTED && ended.status == PIONGSEUT_CHECK_CONDITION &&
               memcmp(&record, &empty, sizeof record) == 0 && fixed_sense(with_extend),
           "the registers in the fixed form, with EXTEND");
     prepare();
-    answer = piongseut_submit(&record, report, sizeof report, said, PIONGSEUT_REGISTERS_SIZE, 0, PIONGSEUT_SENSE_FIXED, sense,
-                              sizeof sense);
+    answer = piongseut_submit(&record, report, sizeof report, said, PIONGSEUT_REGISTERS_SIZE, 0, form, sense, sizeof sense);
     check(answer.number == PIONGSEUT_ACCEPTED && answer.status == PIONGSEUT_CHECK_CONDITION && fixed_sense(without),
           "PROTOCOL 15 in the fixed form, without EXTEND");
 }
@@ -332,7 +333,8 @@ static void register_places(void)
     check(answer.number == PIONGSEUT_ACCEPTED && ended.number == PIONGSEUT_ACCEPTED &&
               memcmp(sense + REGISTERS_AT, wanted, sizeof wanted) == 0,
           "the registers stand in the rule book's order");
-    fixed_places(said);
+    fixed_places(PIONGSEUT_SENSE_FIXED, said);
+    fixed_places(PIONGSEUT_SENSE_UNSTATED, said);
 }
 
 static void longest_order(void)
@@ -521,7 +523,7 @@ static piongseut_inquiry_answer ask_intake(piongseut_intake intake, const uint8_
     piongseut_intake_block_answer its = piongseut_intake_block(intake, PIONGSEUT_BLOCK_SIZE);
     check(its.number == PIONGSEUT_ACCEPTED && its.count == whole, "the block of an intake: 512 bytes or none");
     return piongseut_inquiry(command, sizeof command, store, its.count, signature, sizeof signature, texts, sizeof texts, texts, 0,
-                             PIONGSEUT_SENSE_UNSTATED, room, sizeof room, sense, sizeof sense);
+                             PIONGSEUT_SENSE_DESCRIPTOR, room, sizeof room, sense, sizeof sense);
 }
 
 /* Pages from the complete intake, from one that lacks a byte, and no block of a wrong one. */
