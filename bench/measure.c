@@ -77,7 +77,8 @@ struct measured {
 
 /*
  * How a call is made: for a drive without a name, for a packet drive, with an order pending, with one that asks for registers,
- * with an intake that has a part of its block, with blocks that carry a checksum, for sense data in the fixed form.
+ * with an intake that has a part of its block, with blocks that carry a checksum, for sense data in the fixed form and not among
+ * descriptors.
  */
 enum { TEXTS = 1, PACKET = 2, HELD = 4, CK_COND = 8, PART = 16, SUMMED = 32, FIXED = 64 };
 
@@ -90,10 +91,9 @@ static size_t page_size; /* of the page that was written last; it is the one to 
 
 /* ---- The calls ---- */
 
-/* Descriptor is what a caller gets who states no form. */
 static uint8_t form_of(const measured *one)
 {
-    return one->how & FIXED ? PIONGSEUT_SENSE_FIXED : PIONGSEUT_SENSE_UNSTATED;
+    return one->how & FIXED ? PIONGSEUT_SENSE_FIXED : PIONGSEUT_SENSE_DESCRIPTOR;
 }
 
 static void make_empty(const measured *one, const maker *by, left *to)

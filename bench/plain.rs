@@ -125,8 +125,8 @@ const TABLE: [[u8; 3]; 19] = [
     FIELD, [0; 3], FIELD, FIELD, FIELD, FIELD, [0; 3], [0; 3], [0; 3], [0; 3],
 ];
 
-/// The one number that states the fixed form; all others come to the descriptor form.
-const FIXED: u8 = 1;
+/// The one number that states the descriptor form; all others come to the fixed form.
+const DESCRIPTOR: u8 = 2;
 
 /// The fixed form of a refusal, into which a report puts the registers.
 fn fixed([key, asc, ascq]: [u8; 3]) -> [u8; 18] {
@@ -138,7 +138,7 @@ fn refuse(number: u8, form: u8, sense: &mut [u8]) -> u8 {
     match (number, TABLE[usize::from(number)]) {
         (10, _) => return BUSY,
         (_, [0, ..]) => return NONE,
-        (_, codes) if form == FIXED => sense[..18].copy_from_slice(&fixed(codes)),
+        (_, codes) if form != DESCRIPTOR => sense[..18].copy_from_slice(&fixed(codes)),
         (_, [key, asc, ascq]) => sense[..8].copy_from_slice(&[0x72, key, asc, ascq, 0, 0, 0, 0]),
     }
     CHECK_CONDITION
@@ -146,7 +146,7 @@ fn refuse(number: u8, form: u8, sense: &mut [u8]) -> u8 {
 
 /// Writes the sense bytes that report registers, and gives the status.
 fn report(codes: [u8; 3], extend: bool, registers: &[u8; 11], form: u8, sense: &mut [u8]) -> u8 {
-    if form == FIXED {
+    if form != DESCRIPTOR {
         let [error, c, c0, l, l0, m, m0, h, h0, device, status] = *registers;
         let flags = if extend { 0x80 | u8::from(c != 0) << 6 | u8::from(l | m | h != 0) << 5 } else { 0 };
         let mut bytes = fixed(codes);
