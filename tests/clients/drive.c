@@ -106,6 +106,8 @@ static int property(drive *d, const char *folder, const char *key, const char *v
         d->form = PIONGSEUT_SENSE_FIXED;
     else if (!strcmp(key, "sense") && !strcmp(value, "descriptor"))
         d->form = PIONGSEUT_SENSE_DESCRIPTOR;
+    else if (!strcmp(key, "sense") && !strcmp(value, "unstated"))
+        d->form = PIONGSEUT_SENSE_UNSTATED;
     else
         return -1;
     return 0;
@@ -140,7 +142,7 @@ int drive_describe(drive *d, const char *text, const char *folder, char *complai
     char line[256], key[16], value[128];
     memset(d, 0, sizeof *d);
     d->power = 0xFF;
-    d->form = PIONGSEUT_SENSE_UNSTATED;
+    d->form = PIONGSEUT_SENSE_DESCRIPTOR; /* what a host bridge for Linux asks for: RULES 10 */
     for (int number = 0; *text; number++) {
         size_t length = strcspn(text, "\n");
         snprintf(line, sizeof line, "%.*s", (int)length, text);
