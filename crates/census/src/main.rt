@@ -199,33 +199,26 @@ fn say_few(what: &[u8], count: u16) -> bool {
     say_count(what, count as u64)
 }
 
-// A line of a class that is a number.
-fn say_class(grouping: &[u8], class: usize, count: u16) -> bool {
+// The line of a class: its number, or that it is none of them.
+fn say_line(grouping: &[u8], class: usize, count: u16, none: bool) -> bool {
+    if none {
+        return say(grouping) && say_few(b" none", count);
+    }
     say(grouping) && say(b" ") && say_number(class as u64) && say_few(b"", count)
 }
 
-// The lines of modes 0 to 6, and of none.
-fn say_modes(modes: &[u16; 8]) -> bool {
-    let mut mode = 0;
-    while mode < 7 {
-        if !say_class(b"udma", mode, modes[mode]) {
+// The lines of a grouping: its classes are numbers from `first` on, and none is behind them.
+fn say_classes(grouping: &[u8], first: usize, counts: &[u16]) -> bool
+    requires { ⌜ first ≤ 1 ⌝ }
+{
+    let mut i = 0;
+    while i < counts.len() {
+        if !say_line(grouping, first + i, counts[i], i + 1 == counts.len()) {
             return false;
         }
-        mode += 1;
+        i += 1;
     }
-    say_few(b"udma none", modes[7])
-}
-
-// The lines of versions 1 to 14, and of none.
-fn say_versions(versions: &[u16; 15]) -> bool {
-    let mut version = 1;
-    while version < 15 {
-        if !say_class(b"version", version, versions[version - 1]) {
-            return false;
-        }
-        version += 1;
-    }
-    say_few(b"version none", versions[14])
+    true
 }
 
 fn say_census(census: Census, damaged: u64) -> bool {
@@ -235,8 +228,8 @@ fn say_census(census: Census, damaged: u64) -> bool {
         && say_count(b"damaged", damaged)
         && say_few(b"wwn", census.named)
         && say_few(b"text", census.unnamed)
-        && say_modes(&modes)
-        && say_versions(&versions)
+        && say_classes(b"udma", 0, &modes)
+        && say_classes(b"version", 1, &versions)
 }
 
 // What comes of the input. An intake that has some bytes at its end has a part of a last block.
