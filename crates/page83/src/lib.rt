@@ -1,4 +1,4 @@
-// Page 83h: the page that names a drive, for whoever has a block and room. The rules stand in specs/Page83; the crate `reader` reads
+// Page 83h: the page that names a drive, for whoever has a block and room. The rules stand in specs/Page83; `page83_reader` reads
 // the page.
 ghost use mathlib.Core.Path.{_≡_};
 ghost use mathlib.Core.List.{List, _++_};
