@@ -206,17 +206,25 @@ typedef struct {
 } piongseut_order;
 PIONGSEUT_HAS_SIZE(piongseut_order, 24)
 
-/* States of a record: it holds nothing, or an order. */
+/*
+ * States of a record: it holds nothing; an order, which may be a reset; or an order with a reset over it, which was taken while the
+ * order was pending.
+ */
 #define PIONGSEUT_STATE_NOTHING 0
 #define PIONGSEUT_STATE_ORDER 1
+#define PIONGSEUT_STATE_RESET_OVER_ORDER 2
 
 /*
- * The pending record: one order at most. The caller keeps it and lends it to each call; begin with piongseut_record_empty(). Every
- * byte pattern is a valid record: one with any other state than these two holds an order.
+ * The pending record: one order at most, and one reset over it. The caller keeps it and lends it to each call; begin with
+ * piongseut_record_empty(). There is no padding in it, and every byte pattern is a valid record: one with any other state than these
+ * three holds an order. The two fields of the reset are looked at in PIONGSEUT_STATE_RESET_OVER_ORDER alone; they are all of a reset
+ * that differs from another's.
  */
 typedef struct {
-    uint32_t state;
-    piongseut_order order;
+    uint8_t state;                /* PIONGSEUT_STATE_... */
+    uint8_t reset_protocol;       /* of the reset over the order */
+    uint16_t reset_quiet_seconds;
+    piongseut_order order;        /* the order; under a reset the older one */
 } piongseut_record;
 PIONGSEUT_HAS_SIZE(piongseut_record, 28)
 
@@ -228,10 +236,12 @@ typedef struct {
 PIONGSEUT_HAS_SIZE(piongseut_submit_answer, 28)
 
 typedef struct {
-    uint8_t number;
+    uint8_t number; /* refusal number, 0 if none */
     uint8_t status;
+    uint8_t lost;          /* 1: a reset ended, and the order that it was over is lost */
+    uint8_t lost_protocol; /* the lost order's; 0 where none is lost. A lost order has no status */
 } piongseut_complete_answer;
-PIONGSEUT_HAS_SIZE(piongseut_complete_answer, 2)
+PIONGSEUT_HAS_SIZE(piongseut_complete_answer, 4)
 
 /* A record that holds nothing. */
 piongseut_record piongseut_record_empty(void);
@@ -244,6 +254,7 @@ piongseut_record piongseut_record_empty(void);
  * (PIONGSEUT_SENSE_...); the record does not hold it. Lent to write: the record, and sense room of at least 22 bytes.
  * Back: the order to carry out, which the record now holds; or for PROTOCOL 15 number 0, CHECK CONDITION with sense data that tell the
  * registers, no order, and the record as it was.
+ * While an order is pending a reset (PROTOCOL 0 or 1) is taken over it, unless that is a reset itself or has one over it; nothing else is.
  * Refusals: 1 (registers not of 11 bytes, sense room below 22), 2, 3, 4, 9 to 14. A refusal leaves the record as it was.
  *
  * On packet (MMC) drives the opcode A1h is BLANK. This function is lent no signature and takes A1h for ATA PASS-THROUGH (12):
@@ -257,8 +268,9 @@ piongseut_submit_answer piongseut_submit(piongseut_record *record,
                                          uint8_t *sense, size_t sense_size);
 
 /*
- * Ends the order that the record holds, with the registers that the drive left (11 bytes, as above), and empties the record. `form` is
- * that of the sense data, whatever it was when the command was submitted.
+ * Ends the order that the record holds, with the registers that the drive left (11 bytes, as above), and empties the record. Where a
+ * reset is over an order it is the reset that ends, and the order is lost: it has no status, and its protocol is told. `form` is that
+ * of the sense data, whatever it was when the command was submitted.
  *
  * Back: CHECK CONDITION with sense data that tell the registers if the drive's status has bit 0 or 5 (key 0Bh) or the order asked for it
  * (key 01h); else GOOD with the sense room untouched.
