@@ -53,10 +53,10 @@ sized registers sense e =
     (eqb-true _ _ (not-false _ (both .0)), ltb-false _ _ (both .1))
 
 -- A command that no check but those of the length refuses came with all its registers, and is whole.
-module _ (pending : Bool) (command : List ℕ) (registers sense : ℕ) (e : earlyRefusal pending command registers sense ≡ 0) where
-  quiet : Silent (commandChecks pending command registers sense)
+module _ (pending resetPending : Bool) (command : List ℕ) (registers sense : ℕ) (e : earlyRefusal pending resetPending command registers sense ≡ 0) where
+  quiet : Silent (commandChecks pending resetPending command registers sense)
   unfolding earlyRefusal
-  quiet = silent (commandChecks pending command registers sense) refl e
+  quiet = silent (commandChecks pending resetPending command registers sense) refl e
 
   pub taken-sized : (registers ≡ 11) × (22 ≤ sense)
   taken-sized = sized registers sense (quiet .0)
@@ -65,23 +65,23 @@ module _ (pending : Bool) (command : List ℕ) (registers sense : ℕ) (e : earl
   taken-whole = whole refl (quiet .1 .1 .1 .0)
 
 -- A refusal of a command that writes has room for it.
-pub roomy : (pending : Bool) (command : List ℕ) (registers sense : ℕ) {number : ℕ} → number ≡ earlyRefusal pending command registers sense → Roomy number sense
+pub roomy : (pending resetPending : Bool) (command : List ℕ) (registers sense : ℕ) {number : ℕ} → number ≡ earlyRefusal pending resetPending command registers sense → Roomy number sense
 unfolding earlyRefusal
-roomy pending command registers sense e = roomy-unless (wrongSize registers sense) _ (λ w. sized registers sense w .1) e
+roomy pending resetPending command registers sense e = roomy-unless (wrongSize registers sense) _ (λ w. sized registers sense w .1) e
 
 -- The refusal, by the checks that do not look at the length and those that do.
-module _ (pending : Bool) (command : List ℕ) (registers declared sense : ℕ) where
+module _ (pending resetPending : Bool) (command : List ℕ) (registers declared sense : ℕ) where
   abbrev early : List Check
-  early = commandChecks pending command registers sense
+  early = commandChecks pending resetPending command registers sense
 
   abbrev late : List Check
   late = lengthChecks (protocol command) (lengthOf command declared) declared
 
-  pub refused-early : (earlyRefusal pending command registers sense ≡ 0 → ⊥) → refusalOf pending command registers declared sense ≡ earlyRefusal pending command registers sense
+  pub refused-early : (earlyRefusal pending resetPending command registers sense ≡ 0 → ⊥) → refusalOf pending resetPending command registers declared sense ≡ earlyRefusal pending resetPending command registers sense
   unfolding refusalOf earlyRefusal
   refused-early = first-answers early late refl
 
-  pub refused-late : earlyRefusal pending command registers sense ≡ 0 → refusalOf pending command registers declared sense ≡ first late
+  pub refused-late : earlyRefusal pending resetPending command registers sense ≡ 0 → refusalOf pending resetPending command registers declared sense ≡ first late
   unfolding refusalOf earlyRefusal
   refused-late = second-answers early late refl
 

@@ -1,18 +1,18 @@
 -- No rules: the checks in the parts in which the code runs them.
-use mathlib.Core.Bool.{Bool, _&&_, not}
+use mathlib.Core.Bool.{Bool}
 use mathlib.Core.List.{List, [], _∷_}
 use Prim.Native.Nat.{ℕ}
 use lib.Dec.{eqb, ltb}
 use lib.ListN.{length}
 use Rattle.rules.specs.First.{Check, _when_, first}
 use Rattle.passthrough_fields.specs.Fields.{size, protocol, tDir, tLength, naca}
-use Rattle.passthrough_checks.specs.Checks.{wrongSize, wrongOpcode, wrongProtocol, wrongLength, wrongDirection, noLength, tooLong}
+use Rattle.passthrough_checks.specs.Checks.{wrongSize, wrongOpcode, wrongProtocol, waits, wrongLength, wrongDirection, noLength, tooLong}
 
--- 9 to 12, which look at fields of the command alone, and at whether an order is pending.
-abbrev pub fieldChecks : Bool → ℕ → ℕ → Bool → List Check
-fieldChecks pending p tLength dir =
+-- 9 to 12, which look at fields of the command alone, and at what is pending.
+abbrev pub fieldChecks : Bool → Bool → ℕ → ℕ → Bool → List Check
+fieldChecks pending resetPending p tLength dir =
     (9 when wrongProtocol p)
-    ∷ (10 when pending && not (eqb p 15))
+    ∷ (10 when waits pending resetPending p)
     ∷ (11 when wrongLength p tLength)
     ∷ (12 when wrongDirection p dir)
     ∷ []
@@ -25,14 +25,14 @@ lengthChecks p bytes declared =
     ∷ []
 
 -- All that do not look at the length.
-abbrev pub commandChecks : Bool → List ℕ → ℕ → ℕ → List Check
-commandChecks pending command registers sense =
+abbrev pub commandChecks : Bool → Bool → List ℕ → ℕ → ℕ → List Check
+commandChecks pending resetPending command registers sense =
     (1 when wrongSize registers sense)
     ∷ (2 when eqb (length command) 0)
     ∷ (3 when wrongOpcode command)
     ∷ (2 when ltb (length command) (size command))
     ∷ (4 when naca command)
-    ∷ fieldChecks pending (protocol command) (tLength command) (tDir command)
+    ∷ fieldChecks pending resetPending (protocol command) (tLength command) (tDir command)
 
-unfoldable pub earlyRefusal : Bool → List ℕ → ℕ → ℕ → ℕ
-earlyRefusal pending command registers sense = first (commandChecks pending command registers sense)
+unfoldable pub earlyRefusal : Bool → Bool → List ℕ → ℕ → ℕ → ℕ
+earlyRefusal pending resetPending command registers sense = first (commandChecks pending resetPending command registers sense)

@@ -9,7 +9,7 @@ ghost use lib.ListN.{length};
 ghost use Rattle.passthrough_fields.specs.Fields.{size, protocol, tLength, tDir};
 ghost use Rattle.passthrough_fields.specs.Helpers.{Whole};
 ghost use Rattle.rules.specs.First.{_when_, first};
-ghost use Rattle.passthrough_checks.specs.Checks.{wrongSize, wrongOpcode, wrongProtocol, wrongLength, wrongDirection};
+ghost use Rattle.passthrough_checks.specs.Checks.{wrongSize, wrongOpcode, wrongProtocol, waits as Checks·waits, wrongLength, wrongDirection};
 ghost use Rattle.passthrough_checks.specs.Helpers.{fieldChecks, lengthChecks, earlyRefusal};
 
 // 1: a lent piece has not its size.
@@ -45,6 +45,16 @@ fn wrong_protocol(protocol: u8) -> bool
     (protocol == 2) | (protocol == 7) | (protocol == 12) | (protocol == 13) | (protocol == 14)
 }
 
+// 10: an order waits for whatever is pending, a reset for a reset alone.
+fn waits(pending: bool, reset_pending: bool, protocol: u8) -> bool
+    ensures { λ r. ⌜ r ≡ Checks·waits pending «reset_pending» protocol ⌝ }
+{
+    if read::reset(protocol) {
+        return reset_pending;
+    }
+    pending & (protocol != 15)
+}
+
 // 11: T_LENGTH does not fit the protocol.
 fn wrong_length(protocol: u8, t_length: u8) -> bool
     ensures { λ r. ⌜ r ≡ wrongLength protocol «t_length» ⌝ }
@@ -65,14 +75,14 @@ fn wrong_direction(protocol: u8, from: bool) -> bool
     read::from_drive(protocol)
 }
 
-// 9 to 12, which look at fields of the command alone, and at whether an order is pending.
-fn field_fault(pending: bool, protocol: u8, t_length: u8, from: bool) -> u8
-    ensures { λ r. ⌜ r ≡ first (fieldChecks pending protocol «t_length» from) ⌝ }
+// 9 to 12, which look at fields of the command alone, and at what is pending.
+fn field_fault(pending: bool, reset_pending: bool, protocol: u8, t_length: u8, from: bool) -> u8
+    ensures { λ r. ⌜ r ≡ first (fieldChecks pending «reset_pending» protocol «t_length» from) ⌝ }
 {
     if wrong_protocol(protocol) {
         return 9;
     }
-    if pending & (protocol != 15) {
+    if waits(pending, reset_pending, protocol) {
         return 10;
     }
     if wrong_length(protocol, t_length) {
@@ -101,8 +111,14 @@ pub fn length_fault(protocol: u8, bytes: u32, declared: u32) -> u8
 }
 
 // The number of the first check that applies, but for those of the length, and 0 where none does.
-pub fn fault(pending: bool, command: &[u8], registers: usize, sense: usize) -> u8
-    ensures { λ r. ⌜ r ≡ earlyRefusal pending (now (command .entry)) registers sense ⌝ }
+pub fn fault(
+    pending: bool,
+    reset_pending: bool,
+    command: &[u8],
+    registers: usize,
+    sense: usize,
+) -> u8
+    ensures { λ r. ⌜ r ≡ earlyRefusal pending «reset_pending» (now (command .entry)) registers sense ⌝ }
 {
     if wrong_size(registers, sense) {
         return 1;
@@ -123,6 +139,7 @@ pub fn fault(pending: bool, command: &[u8], registers: usize, sense: usize) -> u
     let t_length = passthrough_fields::t_length(command);
     field_fault(
         pending,
+        reset_pending,
         protocol,
         t_length,
         passthrough_fields::t_dir(command),

@@ -10,6 +10,9 @@ wrong-protocol-requires c κs = search needs
 returns : tie.Need-returns
 returns c = search checks depth 8
 
+waits-requires : tie.Need-waits-requires
+waits-requires c κs = search needs
+
 returns-2 : tie.Need-returns-2
 returns-2 c = search checks depth 8
 
@@ -34,6 +37,7 @@ field-fault-spec =
     (tie.spec
     wrong-protocol-requires
     returns
+    waits-requires
     returns-2
     wrong-length-requires
     returns-3
