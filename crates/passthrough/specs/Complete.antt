@@ -1,10 +1,10 @@
--- Completing the order that is pending (RULES 9).
+-- Completing what is pending (RULES 9).
 use mathlib.Core.Bool.{Bool, cond, _||_, not}
 use mathlib.Core.List.{List, [], _∷_}
 use Prim.Native.Nat.{ℕ}
 use lib.Dec.{eqb}
 use lib.ListN.{length, getD}
-use Rattle.rules.specs.Bits.{bit}
+use Rattle.rules.specs.Bits.{bit, flag}
 use Rattle.rules.specs.First.{Check, _when_, first}
 use Rattle.room.specs.Room.{written}
 use Rattle.sense.specs.Refusal.{rowOf, refusedSense, good, checkCondition}
@@ -13,7 +13,7 @@ use Rattle.passthrough_order.specs.declared.Order.{Order}
 use Rattle.passthrough_checks.specs.Checks.{wrongSize}
 use Rattle.passthrough.specs.declared.Pending.{Pending}
 use Rattle.passthrough.specs.declared.Completed.{Completed}
-use Rattle.passthrough.specs.Record.{empty, nothingPending}
+use Rattle.passthrough.specs.Record.{empty, nothingPending, resetOver, front}
 
 -- A flag of an order is set where it is not zero: an order that the board made has 0 or 1.
 abbrev pub isSet : ℕ → Bool
@@ -40,8 +40,9 @@ pub record Outcome : Type 0 where
 abbrev pub outcome : Completed → List ℕ → Outcome
 outcome completed sense = record { completed = completed; sense = sense }
 
-abbrev pub answer : Pending → ℕ → ℕ → Completed
-answer next number status = record { next = next; ended = record { number = number; status = status } }
+abbrev pub answer : Pending → ℕ → ℕ → ℕ → ℕ → Completed
+answer next number status lost lostProtocol =
+    record { next = next; ended = record { number = number; status = status; lost = lost; «lost_protocol» = lostProtocol } }
 
 -- An error is CHECK CONDITION with key 0Bh; without one, CK_COND makes it CHECK CONDITION with key 01h, 00h/1Dh; else it is GOOD
 -- and writes no sense data. The registers are told with the order's own EXTEND.
@@ -54,14 +55,21 @@ endSense order registers form sense =
     (cond (isSet (order .«ck_cond»)) (written sense 0 (senseData form 0x01 0x00 0x1D (told (isSet (order .extend)) registers)))
     sense)
 
--- Completion empties the record.
+-- An order that a reset is over is lost: 1 says so, and its protocol is told; it has no status. Where none is lost both are 0.
+abbrev pub lost : Pending → ℕ
+lost pending = flag (resetOver pending)
+
+abbrev pub lostProtocol : Pending → ℕ
+lostProtocol pending = cond (resetOver pending) (pending .order .protocol) 0
+
+-- Completion ends the order in front by its own fields, and empties the record.
 abbrev pub ended : Pending → List ℕ → ℕ → List ℕ → Outcome
 ended pending registers form sense =
-    outcome (answer empty 0 (endStatus (pending .order) registers)) (endSense (pending .order) registers form sense)
+    outcome (answer empty 0 (endStatus (front pending) registers) (lost pending) (lostProtocol pending)) (endSense (front pending) registers form sense)
 
--- A refusal hands back the record that it was given.
+-- A refusal hands back the record that it was given, and nothing is lost.
 abbrev pub refused : Pending → ℕ → ℕ → List ℕ → Outcome
-refused pending form number sense = outcome (answer pending number (rowOf number .status)) (refusedSense form number sense)
+refused pending form number sense = outcome (answer pending number (rowOf number .status) 0 0) (refusedSense form number sense)
 
 unfoldable pub complete : Pending → List ℕ → ℕ → List ℕ → Outcome
 complete pending registers form sense =

@@ -1,17 +1,36 @@
--- The record that holds the order that is pending (RULES 9).
-use mathlib.Core.Bool.{Bool}
+-- The record of what is pending: nothing, an order, or an order with a reset over it (RULES 9).
+use mathlib.Core.Bool.{Bool, cond, not, _&&_, _||_}
 use Prim.Native.Nat.{ℕ}
 use lib.Dec.{eqb}
 use Rattle.passthrough_order.specs.declared.Order.{Order}
-use Rattle.passthrough_order.specs.Order.{noOrder}
+use Rattle.passthrough_order.specs.Order.{noOrder, reset, resetWith}
 use Rattle.passthrough.specs.declared.Pending.{Pending}
 
--- One order at most: state 0 holds none, every other state is an order that waits.
+-- State 0 holds nothing, state 2 an order with a reset over it, and every other state an order.
 abbrev pub empty : Pending
-empty = record { state = 0; order = noOrder }
+empty = record { state = 0; «reset_protocol» = 0; «reset_quiet_seconds» = 0; order = noOrder }
 
 abbrev pub holding : Order → Pending
-holding order = record { state = 1; order = order }
+holding order = record { state = 1; «reset_protocol» = 0; «reset_quiet_seconds» = 0; order = order }
+
+-- Of a reset over an order the record has all that differs from another reset's.
+abbrev pub over : Order → Order → Pending
+over older order = record { state = 2; «reset_protocol» = order .protocol; «reset_quiet_seconds» = order .«quiet_seconds»; order = older }
 
 abbrev pub nothingPending : Pending → Bool
-nothingPending record-given = eqb (record-given .state) 0
+nothingPending pending = eqb (pending .state) 0
+
+abbrev pub resetOver : Pending → Bool
+resetOver pending = eqb (pending .state) 2
+
+-- A reset is pending: over an order, or by itself.
+abbrev pub resetPending : Pending → Bool
+resetPending pending = resetOver pending || not (nothingPending pending) && reset (pending .order .protocol)
+
+-- The record with one more order taken: by itself where nothing is pending, else over the order that is.
+abbrev pub taking : Pending → Order → Pending
+taking pending order = cond (nothingPending pending) (holding order) (over (pending .order) order)
+
+-- The order that completion ends: the reset over an order, or the order that there is.
+abbrev pub front : Pending → Order
+front pending = cond (resetOver pending) (resetWith (pending .«reset_protocol») (pending .«reset_quiet_seconds»)) (pending .order)

@@ -13,12 +13,12 @@ use Rattle.passthrough_order.specs.Order.{noOrder, orderOf}
 use Rattle.passthrough_checks.specs.Checks as Check
 use Rattle.passthrough.specs.declared.Pending.{Pending}
 use Rattle.passthrough.specs.declared.Submitted.{Submitted}
-use Rattle.passthrough.specs.Record.{holding, nothingPending}
+use Rattle.passthrough.specs.Record.{nothingPending, resetPending, taking}
 
 -- The number of the first check that applies, and 0 where none does.
 abbrev pub refusalOf : Pending → List ℕ → List ℕ → ℕ → ℕ → ℕ
 refusalOf pending command registers declared sense =
-    Check.refusalOf (not (nothingPending pending)) command (length registers) declared sense
+    Check.refusalOf (not (nothingPending pending)) (resetPending pending) command (length registers) declared sense
 
 -- Everything that comes back, and every lent byte that can change.
 pub record Outcome : Type 0 where
@@ -40,12 +40,12 @@ abbrev pub reported : Pending → List ℕ → ℕ → List ℕ → Outcome
 reported pending registers form sense =
     outcome (answer pending 0 checkCondition noOrder) (written sense 0 (senseData form 0x01 0x00 0x1D (told false registers)))
 
--- An order that is taken fills the record, and has no status until it is completed.
-abbrev pub taken : Order → List ℕ → Outcome
-taken order sense = outcome (answer (holding order) 0 noStatus order) sense
+-- An order that is taken is held by the record, and has no status until it is completed.
+abbrev pub taken : Pending → Order → List ℕ → Outcome
+taken pending order sense = outcome (answer (taking pending order) 0 noStatus order) sense
 
 unfoldable pub submit : Pending → List ℕ → List ℕ → ℕ → ℕ → List ℕ → Outcome
 submit pending command registers declared form sense =
     cond (eqb (refusalOf pending command registers declared (length sense)) 0)
-    (cond (eqb (protocol command) 15) (reported pending registers form sense) (taken (orderOf command declared) sense))
+    (cond (eqb (protocol command) 15) (reported pending registers form sense) (taken pending (orderOf command declared) sense))
     (refused pending form (refusalOf pending command registers declared (length sense)) sense)

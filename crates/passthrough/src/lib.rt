@@ -1,6 +1,7 @@
-// Pass-through: the record that holds the one order that is pending, a command submitted to it, and the order's completion. The
-// rules stand in specs/: Record, Submit and Complete.
+// Pass-through: the record that holds what is pending, an order or an order with a reset over it, a command submitted to it, and the
+// completion. The rules stand in specs/: Record, Submit and Complete.
 mod finish;
+mod held;
 
 use passthrough_order::Order;
 use passthrough_order::read;
@@ -9,10 +10,13 @@ ghost use Rattle.passthrough.specs.Record.{empty as Record·empty};
 ghost use Rattle.passthrough.specs.Submit.{outcome as Submit·outcome, answer as Submit·answer, submit as Submit·submit};
 ghost use Rattle.passthrough.specs.Complete.{outcome as Complete·outcome, answer as Complete·answer, complete as Complete·complete};
 
-// The pending record. State 0 holds nothing, 1 an order.
+// The pending record. State 0 holds nothing, 2 an order with a reset over it, of which it has the two fields, and every other number
+// an order. Numbers only, and no gaps between them, so that C code can hold it as it is.
 #[repr(C)]
 pub struct Pending {
-    pub state: u32,
+    pub state: u8,
+    pub reset_protocol: u8,
+    pub reset_quiet_seconds: u16,
     pub order: Order,
 }
 
@@ -30,11 +34,13 @@ pub struct Submitted {
     pub taken: Taken,
 }
 
-// What comes back of a completion.
+// What comes back of a completion: beside number and status, whether an order was lost under a reset (0 or 1), and its protocol.
 #[repr(C)]
 pub struct Ended {
     pub number: u8,
     pub status: u8,
+    pub lost: u8,
+    pub lost_protocol: u8,
 }
 
 // The record after a completion, and what comes back of it.
@@ -58,12 +64,17 @@ fn answer(next: Pending, number: u8, status: u8, order: Order) -> Submitted
 }
 
 // The answer to a completion.
-fn end(next: Pending, number: u8, status: u8) -> Completed
-    ensures { λ r. ⌜ r ≡ Complete·answer next number status ⌝ }
+fn end(next: Pending, number: u8, status: u8, lost: u8, lost_protocol: u8) -> Completed
+    ensures { λ r. ⌜ r ≡ Complete·answer next number status lost «lost_protocol» ⌝ }
 {
     Completed {
         next,
-        ended: Ended { number, status },
+        ended: Ended {
+            number,
+            status,
+            lost,
+            lost_protocol,
+        },
     }
 }
 
@@ -74,6 +85,8 @@ impl Pending {
     {
         Pending {
             state: 0,
+            reset_protocol: 0,
+            reset_quiet_seconds: 0,
             order: passthrough_order::no_order(),
         }
     }
@@ -92,6 +105,7 @@ impl Pending {
         let nothing = passthrough_order::no_order();
         let number = passthrough_checks::fault(
             self.state != 0,
+            held::reset_pending(self),
             command,
             registers.len(),
             sense.len(),
@@ -109,19 +123,21 @@ impl Pending {
         if late != 0 {
             return answer(self, late, sense::refuse(sense, form, late), nothing);
         }
-        answer(Pending { state: 1, order }, 0, sense::NONE, order)
+        answer(held::taking(self, order), 0, sense::NONE, order)
     }
 
-    // The end of the order that is pending, with the registers that the drive left.
+    // The end of the order in front, with the registers that the drive left; an order that a reset is over is lost.
     pub fn complete(self, registers: &[u8], form: u8, sense: &mut [u8]) -> Completed
         ensures { λ r. ⌜ Complete·outcome r (now (sense .exit)) ≡ Complete·complete self (now (registers .entry)) form (now (sense .entry)) ⌝ }
     {
         let empty = Pending::empty();
         let number = finish::fault(self, registers, sense.len());
         if number != 0 {
-            return end(self, number, sense::refuse(sense, form, number));
+            return end(self, number, sense::refuse(sense, form, number), 0, 0);
         }
-        let status = finish::tell(self.order, registers, form, sense);
-        end(empty, 0, status)
+        let lost = finish::lost(self);
+        let lost_protocol = finish::lost_protocol(self);
+        let status = finish::tell(held::front(self), registers, form, sense);
+        end(empty, 0, status, lost, lost_protocol)
     }
 }
