@@ -57,9 +57,9 @@ module _ (pending : Pending) (registers : List ℕ) where
       let s : submit pending returnStatus registers 0 descriptor noSense ≡ Submit.refused pending descriptor n noSense = rw (e, z) in
       rw (s, z) (sym t)
 
-  taken-as : refusal pending registers ≡ 0 → submit pending returnStatus registers 0 descriptor noSense ≡ Submit.taken (orderOf returnStatus 0) noSense
+  taken-as : eqb (length registers) 11 ≡ true → eqb (pending .state) 0 ≡ true → submit pending returnStatus registers 0 descriptor noSense ≡ Submit.taken empty (orderOf returnStatus 0) noSense
   unfolding submit
-  taken-as e = rw e
+  taken-as s f = rw (number-0 s f, f)
 
 -- The order as it ends with all its registers, with an error or without: the record is empty, and the sense data tell them.
 endSense : Bool → List ℕ → List ℕ
@@ -69,7 +69,7 @@ answered : Bool → List ℕ → Asked
 answered error registers = answer empty (cond error (Error (getD registers 0 0)) (verdictOf (getD registers 6 0) (getD registers 8 0)))
 
 module _ (registers : List ℕ) (sized : eqb (length registers) 11 ≡ true) where
-  completed-as : (error : Bool) → failed registers ≡ error → complete (holding (orderOf returnStatus 0)) registers descriptor noSense ≡ Complete.outcome (Complete.answer empty 0 checkCondition) (endSense error registers)
+  completed-as : (error : Bool) → failed registers ≡ error → complete (holding (orderOf returnStatus 0)) registers descriptor noSense ≡ Complete.outcome (Complete.answer empty 0 checkCondition 0 0) (endSense error registers)
   unfolding orderOf Complete.refusalOf complete endSense
   completed-as true e = rw (sized, e)
   completed-as false e = rw (sized, e)
@@ -89,7 +89,7 @@ pub says-by-registers : (registers : List ℕ) → length registers ≡ 11 → a
 unfolding answered asked
 says-by-registers registers l =
     let sized : eqb (length registers) 11 ≡ true = eq-eqb (length registers) 11 l in
-    rw (taken-as empty registers (number-0 empty registers sized refl)) (said-as registers sized (failed registers) refl)
+    rw (taken-as empty registers sized refl) (said-as registers sized (failed registers) refl)
 
 module _ (pending : Pending) (registers : List ℕ) where
   -- Whatever is pending and whatever the registers are, an answer stands for what the board gave.
@@ -100,9 +100,9 @@ module _ (pending : Pending) (registers : List ℕ) where
       by : (sized free error : Bool) → eqb (length registers) 11 ≡ sized → eqb (pending .state) 0 ≡ free → failed registers ≡ error → valuesOf (asked pending registers .said) ≡ given pending registers
       by false free error s f e = refused-as pending registers 1 refl refl (number-1 pending registers s)
       by true false error s f e = refused-as pending registers 10 refl refl (number-10 pending registers s f)
-      by true true true s f e = rw (taken-as pending registers (number-0 pending registers s f), said-as registers s true e, told-as registers s true e)
+      by true true true s f e = rw (taken-as pending registers s f, said-as registers s true e, told-as registers s true e)
       by true true false s f e =
-          rw (taken-as pending registers (number-0 pending registers s f), said-as registers s false e, told-as registers s false e)
+          rw (taken-as pending registers s f, said-as registers s false e, told-as registers s false e)
           (verdict-values (getD registers 6 0) (getD registers 8 0))
 
   -- So whoever answers by the rules answers what stands for it.
