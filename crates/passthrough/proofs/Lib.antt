@@ -1,4 +1,5 @@
 -- The laws of the pending record, and of functions over it as it is lent.
 mod Laws
+pub mod Over
 pub mod Thin
 pub mod Unmoved

@@ -1,7 +1,7 @@
 -- A step that leaves the record's state leaves the record: what it moves, it moves from nothing to an order, from an order to one with a
 -- reset over it, or to nothing.
 use mathlib.Core.Path.{_≡_, refl, sym, ap, _∙_}
-use mathlib.Core.Bool.{Bool, true, false, cond, not, _||_, _&&_, true≢false}
+use mathlib.Core.Bool.{Bool, true, false, cond, not, _&&_, true≢false}
 use mathlib.Core.List.{List}
 use Prim.Native.Nat.{ℕ}
 use lib.Dec.{eqb, eqb→eq, T as Holds}
@@ -10,13 +10,13 @@ use borrow.Author.Tests.{eqb-true}
 use Rattle.rules.proofs.First.{silent, neither}
 use Rattle.passthrough_fields.specs.Fields.{protocol}
 use Rattle.passthrough_order.specs.Order.{reset, orderOf}
-use Rattle.passthrough_checks.specs.Checks as Check
 use Rattle.passthrough.specs.declared.Pending.{Pending}
 use Rattle.passthrough.specs.declared.Submitted.{Submitted}
 use Rattle.passthrough.specs.declared.Completed.{Completed}
-use Rattle.passthrough.specs.Record.{nothingPending, resetOver, resetPending, taking}
+use Rattle.passthrough.specs.Record.{nothingPending, resetOver, taking}
 use Rattle.passthrough.specs.Submit as Submit
 use Rattle.passthrough.specs.Complete as Complete
+use Rattle.passthrough.proofs.Over.{taken-over}
 
 -- How the code asks for it: two numbers that are not different.
 settled : (b : Bool) → Holds (not (not b)) → Holds b
@@ -30,22 +30,19 @@ module _ (p : Pending) (command registers : List ℕ) (declared form : ℕ) (sen
   abbrev refusal : ℕ
   refusal = Submit.refusalOf p command registers declared (length sense)
 
-  -- An order is taken over another only where that has no reset over it.
-  takes : (free wait : Bool) → nothingPending p ≡ free → reset (protocol command) ≡ wait → Check.waits (not free) (resetPending p) (protocol command) ≡ false → eqb (protocol command) 15 ≡ false → taking p (orderOf command declared) .state ≡ p .state → ⊥
-  takes true wait n w c f h = true≢false (sym n ∙ ap (λ (s : ℕ). eqb s 0) (sym h) ∙ rw n)
-  takes false true n w c f h = true≢false (ap (λ (s : ℕ). eqb s 2) (rw n at h) ∙ neither (resetOver p) (not (nothingPending p) && reset (p .order .protocol)) (rw w at c) .0)
-  takes false false n w c f h = true≢false (rw (w, f) at c)
-
-  checked : refusal ≡ 0 → Check.waits (not (nothingPending p)) (resetPending p) (protocol command) ≡ false
-  unfolding Check.refusalOf
-  checked e = silent (Check.checksOf (not (nothingPending p)) (resetPending p) command (length registers) declared (length sense)) refl e .1 .1 .1 .1 .1 .1 .0
+  -- An order that is taken moves the state: from none to one, or to two, where no reset was over the order.
+  moved : (free : Bool) → nothingPending p ≡ free → refusal ≡ 0 → eqb (protocol command) 15 ≡ false → taking p (orderOf command declared) .state ≡ p .state → ⊥
+  moved true n e f h = true≢false (sym n ∙ ap (λ (s : ℕ). eqb s 0) (sym h) ∙ rw n)
+  moved false n e f h =
+      let over = taken-over p command registers declared (length sense) e f n .1 in
+      true≢false (ap (λ (s : ℕ). eqb s 2) (rw n at h) ∙ neither (resetOver p) (not (nothingPending p) && reset (p .order .protocol)) over .0)
 
   unmoved-by : (b told : Bool) → eqb refusal 0 ≡ b → eqb (protocol command) 15 ≡ told
       → let o = cond b (cond told (Submit.reported p registers form sense) (Submit.taken p (orderOf command declared) sense)) (Submit.refused p form refusal sense) in
       o .submitted .next .state ≡ p .state → o .submitted .next ≡ p
   unmoved-by false told e f h = refl
   unmoved-by true true e f h = refl
-  unmoved-by true false e f h = absurd (takes (nothingPending p) (reset (protocol command)) refl refl (checked (eqb-true refusal 0 e)) f h)
+  unmoved-by true false e f h = absurd (moved (nothingPending p) refl (eqb-true refusal 0 e) f h)
 
   pub submit-unmoved : {r : Submitted} {s : List ℕ} → Submit.outcome r s ≡ Submit.submit p command registers declared form sense → r .next .state ≡ p .state → r .next ≡ p
   unfolding Submit.submit
