@@ -25,11 +25,11 @@ use Rattle.passthrough_order.specs.Order.{orderOf}
 use Rattle.passthrough_checks.specs.Checks as Check
 use Rattle.passthrough_checks.proofs.Laws as PassLaws
 use Rattle.passthrough.specs.declared.Pending.{Pending}
-use Rattle.passthrough.specs.Record.{empty, nothingPending}
+use Rattle.passthrough.specs.Record.{empty, nothingPending, resetPending, front}
 use Rattle.passthrough.specs.Submit as Submit
 use Rattle.passthrough.specs.Submit.{submit}
 use Rattle.passthrough.specs.Complete as Complete
-use Rattle.passthrough.specs.Complete.{complete, failed, isSet}
+use Rattle.passthrough.specs.Complete.{complete, failed, isSet, lost, lostProtocol}
 use Rattle.intake.specs.Intake.{wrongIntake, blockOf}
 use Rattle.received.specs.Received.{inquiryOf}
 use Rattle.demands.specs.Promises.{ToldAlike, FormsAgree, FormChangesOnlySense, UsualForm}
@@ -95,16 +95,16 @@ module _ (form other : ℕ) (f : isFixed form ≡ true) (o : isFixed other ≡ f
       enough = roomy-unless (Check.wrongSize (length registers) (length room)) _ (λ w. PassLaws.sized (length registers) (length room) w .1) refl
 
       either : ℕ → Bool → Bool → Submit.Outcome
-      either g t told = cond t (cond told (Submit.reported p registers g room) (Submit.taken (orderOf command declared) room)) (Submit.refused p g r room)
+      either g t told = cond t (cond told (Submit.reported p registers g room) (Submit.taken p (orderOf command declared) room)) (Submit.refused p g r room)
 
       by : (t told : Bool) → eqb r 0 ≡ t → ToldAlike (either form t told .submitted .taken .status) room (either form t told .sense) (either other t told .sense)
-      by true true e = written-alike (PassLaws.sized (length registers) (length room) (silent (Check.checksOf (not (nothingPending p)) command (length registers) declared (length room)) refl (eqb-true r 0 e) .0) .1) 0x01 0x00 0x1D (showing false registers)
+      by true true e = written-alike (PassLaws.sized (length registers) (length room) (silent (Check.checksOf (not (nothingPending p)) (resetPending p) command (length registers) declared (length room)) refl (eqb-true r 0 e) .0) .1) 0x01 0x00 0x1D (showing false registers)
       by true false e = quiet noStatus none-untold
       by false told e = refused-alike r enough
 
   of-complete : (p : Pending) (registers : List ℕ) → ToldAlike (complete p registers form room .completed .ended .status) room (complete p registers form room .sense) (complete p registers other room .sense)
   unfolding complete Complete.refusalOf
-  of-complete p registers = by (eqb r 0) (failed registers) (isSet (p .order .«ck_cond»)) refl
+  of-complete p registers = by (eqb r 0) (failed registers) (isSet (front p .«ck_cond»)) refl
     where
       r : ℕ
       r = Complete.refusalOf p registers (length room)
@@ -115,9 +115,9 @@ module _ (form other : ℕ) (f : isFixed form ≡ true) (o : isFixed other ≡ f
       either : ℕ → Bool → Bool → Bool → Complete.Outcome
       either g t error checked =
           cond t
-          (Complete.outcome (Complete.answer empty 0 (cond error checkCondition (cond checked checkCondition good)))
-          (cond error (written room 0 (senseData g 0x0B 0x00 0x00 (showing (isSet (p .order .extend)) registers)))
-          (cond checked (written room 0 (senseData g 0x01 0x00 0x1D (showing (isSet (p .order .extend)) registers))) room)))
+          (Complete.outcome (Complete.answer empty 0 (cond error checkCondition (cond checked checkCondition good)) (lost p) (lostProtocol p))
+          (cond error (written room 0 (senseData g 0x0B 0x00 0x00 (showing (isSet (front p .extend)) registers)))
+          (cond checked (written room 0 (senseData g 0x01 0x00 0x1D (showing (isSet (front p .extend)) registers))) room)))
           (Complete.refused p g r room)
 
       here : eqb r 0 ≡ true → 22 ≤ length room
@@ -163,7 +163,7 @@ module _ (q : Request) (form other : ℕ) (room sense : List ℕ) where
 module _ (p : Pending) (command registers : List ℕ) (declared form other : ℕ) (sense : List ℕ) where
   abbrev submitBy : ℕ → Bool → Bool → Submit.Outcome
   submitBy g t told =
-      cond t (cond told (Submit.reported p registers g sense) (Submit.taken (orderOf command declared) sense)) (Submit.refused p g (Submit.refusalOf p command registers declared (length sense)) sense)
+      cond t (cond told (Submit.reported p registers g sense) (Submit.taken p (orderOf command declared) sense)) (Submit.refused p g (Submit.refusalOf p command registers declared (length sense)) sense)
 
   of-submit-rest : (t told : Bool) → submitBy form t told .submitted ≡ submitBy other t told .submitted
   of-submit-rest true true = refl

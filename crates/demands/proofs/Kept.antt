@@ -5,7 +5,8 @@ use Rattle.demands.specs.Promises.{Settled, OneOutcome, Promises}
 use Rattle.demands.proofs.Refusals.{refusals-change-nothing}
 use Rattle.demands.proofs.Soundings.{soundings-hold}
 use Rattle.demands.proofs.Inquiry.{within-allocation, cut-again, pages-of-inquiry}
-use Rattle.demands.proofs.Order.{direction-from-the-fields, only-the-command-differs, own-flags, completed-with-its-own-fields, none-taken-while-pending, protocol-15-keeps-the-record}
+use Rattle.demands.proofs.Order.{direction-from-the-fields, only-the-command-differs, own-flags, completed-with-its-own-fields, taken-while-pending, protocol-15-keeps-the-record}
+use Rattle.demands.proofs.History.{every-order-accounted}
 use Rattle.demands.proofs.Forms.{forms-agree-everywhere, form-changes-only-sense, usual-form}
 use Rattle.demands.proofs.Page83.{reads-back, accepted-is-written, writer-accepts, pages-of-the-writer}
 use Rattle.demands.proofs.Roll.{roll-accepts, roll-of-drives}
@@ -47,8 +48,9 @@ kept =
       only-the-command-differs = only-the-command-differs;
       own-flags = own-flags;
       completed-with-its-own-fields = completed-with-its-own-fields;
-      none-taken-while-pending = none-taken-while-pending;
+      taken-while-pending = taken-while-pending;
       protocol-15-keeps-the-record = protocol-15-keeps-the-record;
+      every-order-accounted = every-order-accounted;
       forms-agree = forms-agree-everywhere;
       form-changes-only-sense = form-changes-only-sense;
       usual-form = usual-form;

@@ -3,6 +3,7 @@ pub mod Refusals
 pub mod Soundings
 pub mod Inquiry
 pub mod Order
+pub mod History
 pub mod Page83
 pub mod Roll
 pub mod Stream

@@ -1,4 +1,4 @@
--- Orders (demand 2): the direction is never guessed, no order is faked, and what keeps the record.
+-- Orders (demand 2): the direction is never guessed, no order is faked, what is taken while another is pending, and what keeps the record.
 use mathlib.Core.Path.{_≡_, refl, sym, ap, subst, _∙_}
 use mathlib.Core.Bool.{Bool, true, false, cond, not, _&&_, true≢false}
 use mathlib.Core.List.{List}
@@ -7,21 +7,23 @@ use native.Mathlib.Omega.{arith}
 use lib.Dec.{eqb}
 use lib.ListN.{length, getD, set}
 use lib.Seq.{getD-set-same, getD-set-other}
-use borrow.Author.Tests.{eqb-false, eq-eqb, ne-eqb, le-ltb}
+use borrow.Author.Tests.{eqb-true, eqb-false, eq-eqb, ne-eqb, le-ltb}
 use Rattle.rules.specs.Bits.{flag}
 use Rattle.passthrough_fields.specs.Fields.{long, size, protocol, tDir, ckCond, extend}
 use Rattle.passthrough_fields.specs.Helpers.{Whole}
 use Rattle.passthrough_fields.specs.Length.{lengthOf}
 use Rattle.passthrough_fields.proofs.Laws.{either}
 use Rattle.passthrough_order.specs.declared.Order.{Order}
-use Rattle.passthrough_order.specs.Order.{reset, directionOf, orderOf}
+use Rattle.passthrough_order.specs.Order.{reset, resetOrder, directionOf, orderOf}
 use Rattle.passthrough_checks.specs.Checks as Checks
-use Rattle.passthrough.specs.Record.{nothingPending}
+use Rattle.passthrough.specs.declared.Pending.{Pending}
+use Rattle.passthrough.specs.Record.{nothingPending, resetPending}
 use Rattle.passthrough.specs.Submit as Submit
 use Rattle.passthrough.specs.Submit.{submit}
 use Rattle.passthrough.specs.Complete as Complete
 use Rattle.passthrough.specs.Complete.{complete, isSet}
-use Rattle.demands.specs.Promises.{Submission, outcomeOf, numberOf, orderFrom, DirectionFromTheFields, ataCommandAt, withCommand, OnlyTheCommandDiffers, OwnFlags, EndsBy, CompletedWithItsOwnFields, NoneTakenWhilePending, Protocol15KeepsTheRecord}
+use Rattle.passthrough.proofs.Over.{reset-whole, taken-over}
+use Rattle.demands.specs.Promises.{Submission, outcomeOf, numberOf, orderFrom, DirectionFromTheFields, ataCommandAt, withCommand, OnlyTheCommandDiffers, OwnFlags, EndsBy, CompletedWithItsOwnFields, withNothingPending, TakenWhilePending, Protocol15KeepsTheRecord}
 use Rattle.demands.proofs.Refusals.{not-refused}
 
 -- What decides the direction: a reset has none.
@@ -73,10 +75,19 @@ later : (b : Bool) (n rest : ℕ) → eqb n 0 ≡ false → eqb rest 0 ≡ false
 later true n rest h r = h
 later false n rest h r = r
 
--- Completing a record that holds an order goes by that order.
-ends-by : (order : Order) (left : List ℕ) (form : ℕ) (room sense : List ℕ) → length left ≡ 11 → 22 ≤ length room → EndsBy left form room (Submit.taken order sense)
+-- And one that has another number, or does not apply, leaves it to those behind it whether 10 is given.
+passed : {b : Bool} (n rest : ℕ) → b ≡ false → eqb rest 10 ≡ false → eqb (cond b n rest) 10 ≡ false
+passed n rest f r = rw f r
+
+other : (b : Bool) (n rest : ℕ) → eqb n 10 ≡ false → eqb rest 10 ≡ false → eqb (cond b n rest) 10 ≡ false
+other true n rest h r = h
+other false n rest h r = r
+
+-- Completing a record that an order was taken into goes by that order, by itself or, a reset, over another.
+ends-by : (free : Bool) (p : Pending) (c : List ℕ) (declared : ℕ) (left : List ℕ) (form : ℕ) (room sense : List ℕ) → nothingPending p ≡ free → (free ≡ false → reset (protocol c) ≡ true) → length left ≡ 11 → 22 ≤ length room → EndsBy p left form room (Submit.taken p (orderOf c declared) sense)
 unfolding complete Complete.refusalOf
-ends-by order left form room sense l r = rw (eq-eqb _ _ l, le-ltb _ _ r)
+ends-by true p c declared left form room sense n o l r = rw (n, eq-eqb _ _ l, le-ltb _ _ r)
+ends-by false p c declared left form room sense n o l r = rw (n, reset-whole c declared (o refl), eq-eqb _ _ l, le-ltb _ _ r)
 
 -- A command that was not refused is answered, or its order is taken.
 module _ (s : Submission) where
@@ -84,7 +95,7 @@ module _ (s : Submission) where
   refusal = Submit.refusalOf (s .record-given) (s .command) (s .registers) (s .declared) (length (s .sense))
 
   abbrev accepted : Bool → Submit.Outcome
-  accepted told = cond told (Submit.reported (s .record-given) (s .registers) (s .form) (s .sense)) (Submit.taken (orderOf (s .command) (s .declared)) (s .sense))
+  accepted told = cond told (Submit.reported (s .record-given) (s .registers) (s .form) (s .sense)) (Submit.taken (s .record-given) (orderOf (s .command) (s .declared)) (s .sense))
 
   abbrev refused : ℕ → Submit.Outcome
   refused number = Submit.refused (s .record-given) (s .form) number (s .sense)
@@ -97,7 +108,7 @@ module _ (s : Submission) where
   unfolding submit
   outcome-is e = rw (eq-eqb refusal 0 (zero e))
 
-  taken : numberOf s ≡ 0 → (protocol (s .command) ≡ 15 → ⊥) → outcomeOf s ≡ Submit.taken (orderOf (s .command) (s .declared)) (s .sense)
+  taken : numberOf s ≡ 0 → (protocol (s .command) ≡ 15 → ⊥) → outcomeOf s ≡ Submit.taken (s .record-given) (orderOf (s .command) (s .declared)) (s .sense)
   taken e h = outcome-is e ∙ rw (ne-eqb (protocol (s .command)) 15 h)
 
   direction-of : numberOf s ≡ 0 → orderFrom s .direction ≡ cond (eqb (protocol (s .command)) 15) 0 (cond (reset (protocol (s .command))) 0 (directionOf (protocol (s .command)) (tDir (s .command))))
@@ -113,13 +124,54 @@ direction-from-the-fields s t es et p d = rw (direction-of s es, direction-of t 
 pub completed-with-its-own-fields : CompletedWithItsOwnFields
 completed-with-its-own-fields s e h left form room l r =
     let w = taken s e h in
-    (ap (λ (o : Submit.Outcome). o .submitted .taken .order) w, subst (EndsBy left form room) (sym w) (ends-by (orderOf (s .command) (s .declared)) left form room (s .sense) l r))
+    let over : nothingPending (s .record-given) ≡ false → reset (protocol (s .command)) ≡ true = λ n. taken-over (s .record-given) (s .command) (s .registers) (s .declared) (length (s .sense)) (zero s e) (ne-eqb _ _ h) n .0 in
+    (ap (λ (o : Submit.Outcome). o .submitted .taken .order) w, subst (EndsBy (s .record-given) left form room) (sym w) (ends-by (nothingPending (s .record-given)) (s .record-given) (s .command) (s .declared) left form room (s .sense) refl over l r))
 
-pub none-taken-while-pending : NoneTakenWhilePending
+-- Check 10 in the place that it has.
+busy : (s : Submission) → Checks.waits (not (nothingPending (s .record-given))) (resetPending (s .record-given)) (protocol (s .command)) ≡ true → numberOf s ≡ 0 → ⊥
 unfolding Checks.refusalOf
-none-taken-while-pending s n h e =
-    let t : (not (nothingPending (s .record-given)) && not (eqb (protocol (s .command)) 15)) ≡ true = rw (n, ne-eqb _ _ h) in
-    eqb-false (refusal s) 0 (search (here, later) depth 9) (zero s e)
+busy s t e = eqb-false (refusal s) 0 (search (here, later) depth 9) (zero s e)
+
+no-other : (s : Submission) → nothingPending (s .record-given) ≡ false → (protocol (s .command) ≡ 15 → ⊥) → reset (protocol (s .command)) ≡ false → numberOf s ≡ 0 → ⊥
+no-other s n h r = busy s (rw (r, n, ne-eqb _ _ h))
+
+no-second-reset : (s : Submission) → resetPending (s .record-given) ≡ true → reset (protocol (s .command)) ≡ true → numberOf s ≡ 0 → ⊥
+no-second-reset s p r = busy s (rw (r, p))
+
+-- The number that comes back is the refusal's.
+number-is : (s : Submission) → numberOf s ≡ refusal s
+unfolding submit
+number-is s = by (eqb (refusal s) 0) refl
+  where
+    of-accepted : (told : Bool) → accepted s told .submitted .taken .number ≡ 0
+    of-accepted true = refl
+    of-accepted false = refl
+
+    by : (t : Bool) → eqb (refusal s) 0 ≡ t → cond t (accepted s (eqb (protocol (s .command)) 15)) (refused s (refusal s)) .submitted .taken .number ≡ refusal s
+    by true e = of-accepted (eqb (protocol (s .command)) 15) ∙ sym (eqb-true _ _ e)
+    by false e = refl
+
+module _ (s : Submission) (p : resetPending (s .record-given) ≡ false) (r : reset (protocol (s .command)) ≡ true) where
+  gets-past : Checks.waits (not (nothingPending (s .record-given))) (resetPending (s .record-given)) (protocol (s .command)) ≡ false
+  gets-past = rw (r, p)
+
+  as-with-nothing : refusal s ≡ refusal (withNothingPending s)
+  unfolding Checks.refusalOf
+  as-with-nothing = rw (r, p)
+
+  not-busy : eqb (refusal s) 10 ≡ false
+  unfolding Checks.refusalOf
+  not-busy =
+      let g = gets-past in
+      search (other, passed) depth 14
+
+pub taken-while-pending : TakenWhilePending
+taken-while-pending =
+    record {
+      no-other = no-other;
+      no-second-reset = no-second-reset;
+      reset-gets-past = λ s p r. (number-is s ∙ as-with-nothing s p r ∙ sym (number-is (withNothingPending s)), λ e. eqb-false (refusal s) 10 (not-busy s p r) (sym (number-is s) ∙ e));
+    }
 
 pub protocol-15-keeps-the-record : Protocol15KeepsTheRecord
 unfolding submit

@@ -72,7 +72,7 @@ unfolding submit
 of-submit p command registers declared form sense h =
     let r = Submit.refusalOf p command registers declared (length sense) in
     by-number submitNumber (λ n. Submit.refused p form n sense) _ r (eqb r 0)
-    (either-zero submitNumber (Submit.reported p registers form sense) (Submit.taken (orderOf command declared) sense) (eqb (protocol command) 15) refl refl) refl h
+    (either-zero submitNumber (Submit.reported p registers form sense) (Submit.taken p (orderOf command declared) sense) (eqb (protocol command) 15) refl refl) refl h
 
 of-complete : (p : Pending) (registers : List ℕ) (form : ℕ) (sense : List ℕ) → Refused (complete p registers form sense .completed .ended .number) → complete p registers form sense ≡ Complete.refused p form (complete p registers form sense .completed .ended .number) sense
 unfolding complete

@@ -32,11 +32,13 @@ use Rattle.passthrough_fields.specs.Fields.{long, size, protocol, tDir, ckCond,
 use Rattle.passthrough_order.specs.declared.Order.{Order}
 use Rattle.passthrough_order.specs.Order.{reset, orderOf}
 use Rattle.passthrough.specs.declared.Pending.{Pending}
-use Rattle.passthrough.specs.Record.{empty, nothingPending}
+use Rattle.passthrough.specs.Record.{empty, nothingPending, resetPending}
 use Rattle.passthrough.specs.Submit as Submit
 use Rattle.passthrough.specs.Submit.{submit}
 use Rattle.passthrough.specs.Complete as Complete
 use Rattle.passthrough.specs.Complete.{complete, endStatus, endSense, isSet}
+use Rattle.passthrough.specs.History as History
+use Rattle.passthrough.specs.History.{Step, Stacked, completionOf}
 use Rattle.roll.specs.Roll as Roll
 use Rattle.roll.specs.Roll.{roll, blockAt}
 use Rattle.intake.specs.declared.Intake.{Intake}
@@ -201,25 +203,54 @@ OnlyTheCommandDiffers = (c : List ℕ) (declared v : ℕ) → size c ≤ length 
 abbrev pub OwnFlags : Type 0
 OwnFlags = (c : List ℕ) (declared : ℕ) → reset (protocol c) ≡ false → (isSet (orderOf c declared .«ck_cond») ≡ ckCond c) × (isSet (orderOf c declared .extend) ≡ extend c)
 
--- Completing what an outcome leaves tells the status and the sense data that the order which it answered says, and leaves the empty
--- record.
-abbrev pub EndsBy : List ℕ → ℕ → List ℕ → Submit.Outcome → Type 0
-EndsBy left form room o =
+-- Completing what an outcome leaves tells the status and the sense data that the order which it answered says, leaves the empty
+-- record, and reports as lost what was pending before: nothing, or an order by its protocol.
+abbrev pub EndsBy : Pending → List ℕ → ℕ → List ℕ → Submit.Outcome → Type 0
+EndsBy before left form room o =
     complete (o .submitted .next) left form room
-    ≡ Complete.outcome (Complete.answer empty 0 (endStatus (o .submitted .taken .order) left)) (endSense (o .submitted .taken .order) left form room)
+    ≡ Complete.outcome
+    (Complete.answer empty 0 (endStatus (o .submitted .taken .order) left) (flag (not (nothingPending before))) (cond (nothingPending before) 0 (before .order .protocol)))
+    (endSense (o .submitted .taken .order) left form room)
 
 -- No order is faked: one that was taken is the order that its command makes, and is completed with its own fields, from every state
 -- of the record.
 abbrev pub CompletedWithItsOwnFields : Type 0
-CompletedWithItsOwnFields = (s : Submission) → numberOf s ≡ 0 → (protocol (s .command) ≡ 15 → ⊥) → (left : List ℕ) (form : ℕ) (room : List ℕ) → length left ≡ 11 → 22 ≤ length room → (orderFrom s ≡ orderOf (s .command) (s .declared)) × EndsBy left form room (outcomeOf s)
+CompletedWithItsOwnFields = (s : Submission) → numberOf s ≡ 0 → (protocol (s .command) ≡ 15 → ⊥) → (left : List ℕ) (form : ℕ) (room : List ℕ) → length left ≡ 11 → 22 ≤ length room → (orderFrom s ≡ orderOf (s .command) (s .declared)) × EndsBy (s .record-given) left form room (outcomeOf s)
 
--- While an order is pending none is taken.
-abbrev pub NoneTakenWhilePending : Type 0
-NoneTakenWhilePending = (s : Submission) → nothingPending (s .record-given) ≡ false → (protocol (s .command) ≡ 15 → ⊥) → Refused (numberOf s)
+-- The same submission with nothing pending.
+abbrev pub withNothingPending : Submission → Submission
+withNothingPending s = record { record-given = empty; command = s .command; registers = s .registers; declared = s .declared; form = s .form; sense = s .sense }
+
+pub record TakenWhilePending : Type 0 where
+  -- While anything is pending only a reset is taken,
+  pub no-other : (s : Submission) → nothingPending (s .record-given) ≡ false → (protocol (s .command) ≡ 15 → ⊥) → reset (protocol (s .command)) ≡ false → Refused (numberOf s)
+  -- and none while a reset is;
+  pub no-second-reset : (s : Submission) → resetPending (s .record-given) ≡ true → reset (protocol (s .command)) ≡ true → Refused (numberOf s)
+  -- but over an order that is no reset it is refused as with nothing pending, and never with 10.
+  pub reset-gets-past : (s : Submission) → resetPending (s .record-given) ≡ false → reset (protocol (s .command)) ≡ true → (numberOf s ≡ numberOf (withNothingPending s)) × (numberOf s ≡ 10 → ⊥)
 
 -- Protocol 15 leaves the record as it was given, in every state, accepted or refused.
 abbrev pub Protocol15KeepsTheRecord : Type 0
 Protocol15KeepsTheRecord = (s : Submission) → protocol (s .command) ≡ 15 → outcomeOf s .submitted .next ≡ s .record-given
+
+-- The book of steps on a record that is empty at first (specs/History of `passthrough`).
+abbrev pub book : List Step → History.Book
+book steps = History.bookOf History.begin steps
+
+-- Of every list of steps, submits and completions in any order:
+pub record Accounted (steps : List Step) : Type 0 where
+  -- the record holds the orders that were taken since the last completion,
+  pub holds : History.waiting (book steps .pending) ≡ book steps .outstanding
+  -- none, one, or an order with a reset over it;
+  pub few : Stacked (book steps .outstanding)
+  -- the next completion goes by them: the last one ends, with its own fields, and the one before it is lost;
+  pub next-completion : (left : List ℕ) (form : ℕ) (room : List ℕ) → length left ≡ 11 → 22 ≤ length room → complete (book steps .pending) left form room ≡ completionOf (book steps .pending) (book steps .outstanding) left form room
+  -- and every order that was taken has ended or is reported lost, once, or still waits: the orders taken, in their order, are those that
+  -- the completions settled and behind them those that wait.
+  pub each-once : book steps .taken ≡ book steps .settled ++ book steps .outstanding
+
+abbrev pub EveryOrderAccounted : Type 0
+EveryOrderAccounted = (steps : List Step) → Accounted steps
 
 -- ## Demand 2: the forms of sense data
 
@@ -422,8 +453,9 @@ pub record Promises : Type 0 where
   pub only-the-command-differs : OnlyTheCommandDiffers
   pub own-flags : OwnFlags
   pub completed-with-its-own-fields : CompletedWithItsOwnFields
-  pub none-taken-while-pending : NoneTakenWhilePending
+  pub taken-while-pending : TakenWhilePending
   pub protocol-15-keeps-the-record : Protocol15KeepsTheRecord
+  pub every-order-accounted : EveryOrderAccounted
   pub forms-agree : FormsAgree
   pub form-changes-only-sense : FormChangesOnlySense
   pub usual-form : UsualForm
