@@ -6,6 +6,7 @@ mod held;
 use passthrough_order::Order;
 use passthrough_order::read;
 ghost use mathlib.Core.Path.{_≡_};
+ghost use Rattle.passthrough_order.specs.Order.{noOrder};
 ghost use Rattle.passthrough.specs.Record.{empty as Record·empty};
 ghost use Rattle.passthrough.specs.Submit.{outcome as Submit·outcome, answer as Submit·answer, submit as Submit·submit};
 ghost use Rattle.passthrough.specs.Complete.{outcome as Complete·outcome, answer as Complete·answer, complete as Complete·complete};
@@ -63,6 +64,13 @@ fn answer(next: Pending, number: u8, status: u8, order: Order) -> Submitted
     }
 }
 
+// The answer to a command that makes no order.
+fn without_order(next: Pending, number: u8, status: u8) -> Submitted
+    ensures { λ r. ⌜ r ≡ Submit·answer next number status noOrder ⌝ }
+{
+    answer(next, number, status, passthrough_order::no_order())
+}
+
 // The answer to a completion.
 fn end(next: Pending, number: u8, status: u8, lost: u8, lost_protocol: u8) -> Completed
     ensures { λ r. ⌜ r ≡ Complete·answer next number status lost «lost_protocol» ⌝ }
@@ -102,7 +110,6 @@ impl Pending {
     ) -> Submitted
         ensures { λ r. ⌜ Submit·outcome r (now (sense .exit)) ≡ Submit·submit self (now (command .entry)) (now (registers .entry)) declared form (now (sense .entry)) ⌝ }
     {
-        let nothing = passthrough_order::no_order();
         let number = passthrough_checks::fault(
             self.state != 0,
             held::reset_pending(self),
@@ -111,17 +118,17 @@ impl Pending {
             sense.len(),
         );
         if number != 0 {
-            return answer(self, number, sense::refuse(sense, form, number), nothing);
+            return without_order(self, number, sense::refuse(sense, form, number));
         }
         let protocol = passthrough_fields::protocol(command);
         if protocol == 15 {
             sense::report(sense, form, 0x01, 0x00, 0x1D, false, registers);
-            return answer(self, 0, sense::CHECK_CONDITION, nothing);
+            return without_order(self, 0, sense::CHECK_CONDITION);
         }
         let order = read::order(command, declared);
         let late = passthrough_checks::length_fault(protocol, order.length, declared);
         if late != 0 {
-            return answer(self, late, sense::refuse(sense, form, late), nothing);
+            return without_order(self, late, sense::refuse(sense, form, late));
         }
         answer(held::taking(self, order), 0, sense::NONE, order)
     }

@@ -13,9 +13,6 @@ use borrow.Author.Needs.{needs}
 use Rattle.passthrough.proofs.Pending.submit.Statement.{statement}
 use Rattle.passthrough.proofs.Pending.submit.Tie as tie
 
-no-order-requires : tie.Need-no-order-requires
-no-order-requires c κs = search needs
-
 reset-pending-requires : tie.Need-reset-pending-requires
 reset-pending-requires c κs = search needs
 
@@ -25,37 +22,37 @@ fault-requires c κs = search needs
 refuse-requires : tie.Need-refuse-requires
 refuse-requires c κs = roomy _ _ _ _ _ (c .before .before .fault .ensures)
 
-answer-requires : tie.Need-answer-requires
-answer-requires c κs = search needs
+without-order-requires : tie.Need-without-order-requires
+without-order-requires c κs = search needs
 
 same-length : tie.Need-same-length
 same-length c = search needs
 
 -- The checks are asked of the record that is lent.
-early-is : (c : tie.After-fault) → let a = c .before .before .before .before .before .before .before .args in c .fault .result ≡ earlyRefusal (not (nothingPending (a .self))) (resetPending (a .self)) (a .command .now) (length (a .registers .now)) (length (a .sense .now))
+early-is : (c : tie.After-fault) → let a = c .before .before .before .before .before .before .args in c .fault .result ≡ earlyRefusal (not (nothingPending (a .self))) (resetPending (a .self)) (a .command .now) (length (a .registers .now)) (length (a .sense .now))
 early-is c = rw (c .before .reset-pending .ensures) at (c .fault .ensures)
 
 returns : tie.Need-returns
 unfolding submit
 returns c =
-    let a = c .before .before .before .before .before .before .before .before .before .before .before .before .before .args in
+    let a = c .before .before .before .before .before .before .before .before .before .before .before .before .args in
     let f = early-is (c .before .before .before .before .before .before) in
     let h = c .before .before .before .before .before .if1 .taken in
-    rw (c .answer .ensures, c .before .before .before .refuse .ensures .0, c .before .before .before .refuse .ensures .1, c .before .before .before .before .before .before .before .before .before .no-order .ensures, refused-early _ _ (a .command .now) (length (a .registers .now)) (a .declared) (length (a .sense .now)) (λ z. h (f ∙ z)), ← f, ne-eqb _ _ h)
+    rw (c .without-order .ensures, c .before .before .before .refuse .ensures .0, c .before .before .before .refuse .ensures .1, refused-early _ _ (a .command .now) (length (a .registers .now)) (a .declared) (length (a .sense .now)) (λ z. h (f ∙ z)), ← f, ne-eqb _ _ h)
 
 -- What is refused of a command that the first checks passed hangs on its length.
 abbrev refusal : tie.Else1 → ℕ
 refusal c =
-    let a = c .before .before .before .before .before .before .before .before .args in
+    let a = c .before .before .before .before .before .before .before .args in
     refusalOf (not (nothingPending (a .self))) (resetPending (a .self)) (a .command .now) (length (a .registers .now)) (a .declared) (length (a .sense .now))
 
-none-early : (c : tie.Else1) → let a = c .before .before .before .before .before .before .before .before .args in earlyRefusal (not (nothingPending (a .self))) (resetPending (a .self)) (a .command .now) (length (a .registers .now)) (length (a .sense .now)) ≡ 0
+none-early : (c : tie.Else1) → let a = c .before .before .before .before .before .before .before .args in earlyRefusal (not (nothingPending (a .self))) (resetPending (a .self)) (a .command .now) (length (a .registers .now)) (length (a .sense .now)) ≡ 0
 none-early c = sym (early-is (c .before)) ∙ c .if1 .left
 
 by-length : (c : tie.After-length-fault) → c .length-fault .result ≡ refusal (c .before .before .before .before)
 by-length c =
     let e = c .before .before .before .before in
-    let a = c .before .before .before .before .before .before .before .before .before .before .before .before .args in
+    let a = c .before .before .before .before .before .before .before .before .before .before .before .args in
     rw (c .before .before .before .protocol .ensures, c .before .order .ensures) at (c .length-fault .ensures)
     ∙ length-of-order (a .command .now) (a .declared)
     ∙ sym (refused-late _ _ _ _ _ _ (none-early e))
@@ -66,8 +63,8 @@ protocol-requires c κs = taken-whole _ _ _ _ _ (none-early c)
 report-requires : tie.Need-report-requires
 report-requires c κs = taken-sized _ _ _ _ _ (none-early (c .before .before .before))
 
-answer-requires-2 : tie.Need-answer-requires-2
-answer-requires-2 c κs = search needs
+without-order-requires-2 : tie.Need-without-order-requires-2
+without-order-requires-2 c κs = search needs
 
 same-length-2 : tie.Need-same-length-2
 same-length-2 c = search needs
@@ -78,8 +75,8 @@ returns-2 c =
     let e = c .before .before .before .before .before .before .before in
     let p = c .before .before .before .before .before .before .protocol .ensures in
     let told = c .before .before .before .before .before .if2 .taken in
-    let a = c .before .before .before .before .before .before .before .before .before .before .before .before .before .before .before .args in
-    rw (c .answer2 .ensures, c .before .before .before .report .ensures .leaves, c .before .before .before .before .before .before .before .before .before .before .before .no-order .ensures, refused-late _ _ _ _ (a .declared) _ (none-early e), none-for-15 _ (a .declared) (sym p ∙ told), eq-eqb _ _ (sym p ∙ told))
+    let a = c .before .before .before .before .before .before .before .before .before .before .before .before .before .before .args in
+    rw (c .without-order2 .ensures, c .before .before .before .report .ensures .leaves, refused-late _ _ _ _ (a .declared) _ (none-early e), none-for-15 _ (a .declared) (sym p ∙ told), eq-eqb _ _ (sym p ∙ told))
 
 order-requires : tie.Need-order-requires
 order-requires c κs = protocol-requires (c .before .before) κs
@@ -90,8 +87,8 @@ length-fault-requires c κs = search needs
 refuse-requires-2 : tie.Need-refuse-requires-2
 refuse-requires-2 c κs = λ _. taken-sized _ _ _ _ _ (none-early (c .before .before .before .before .before .before)) .1
 
-answer-requires-3 : tie.Need-answer-requires-3
-answer-requires-3 c κs = search needs
+without-order-requires-3 : tie.Need-without-order-requires-3
+without-order-requires-3 c κs = search needs
 
 same-length-3 : tie.Need-same-length-3
 same-length-3 c = search needs
@@ -100,42 +97,41 @@ returns-3 : tie.Need-returns-3
 unfolding submit
 returns-3 c =
     let l = by-length (c .before .before .before .before .before .before) in
-    rw (c .answer3 .ensures, c .before .before .before .refuse2 .ensures .0, c .before .before .before .refuse2 .ensures .1, c .before .before .before .before .before .before .before .before .before .before .before .before .before .before .no-order .ensures, ← l, ne-eqb _ _ (c .before .before .before .before .before .if3 .taken))
+    rw (c .without-order3 .ensures, c .before .before .before .refuse2 .ensures .0, c .before .before .before .refuse2 .ensures .1, ← l, ne-eqb _ _ (c .before .before .before .before .before .if3 .taken))
 
 taking-requires : tie.Need-taking-requires
 taking-requires c κs = search needs
 
-answer-requires-4 : tie.Need-answer-requires-4
-answer-requires-4 c κs = search needs
+answer-requires : tie.Need-answer-requires
+answer-requires c κs = search needs
 
 returns-4 : tie.Need-returns-4
 unfolding submit
 returns-4 c =
     let l = by-length (c .before .before .before) in
-    rw (c .answer4 .ensures, c .before .taking .ensures, c .before .before .before .before .order .ensures, ← l, eq-eqb _ _ (c .before .before .if3 .left), ← c .before .before .before .before .before .before .protocol .ensures, ne-eqb _ _ (c .before .before .before .before .before .if2 .left))
+    rw (c .answer .ensures, c .before .taking .ensures, c .before .before .before .before .order .ensures, ← l, eq-eqb _ _ (c .before .before .if3 .left), ← c .before .before .before .before .before .before .protocol .ensures, ne-eqb _ _ (c .before .before .before .before .before .if2 .left))
 
 pub submit-spec : {M : Type 1} → statement M
 submit-spec =
     tie.close
     (tie.spec
-    no-order-requires
     reset-pending-requires
     fault-requires
     refuse-requires
-    answer-requires
+    without-order-requires
     same-length
     returns
     protocol-requires
     report-requires
-    answer-requires-2
+    without-order-requires-2
     same-length-2
     returns-2
     order-requires
     length-fault-requires
     refuse-requires-2
-    answer-requires-3
+    without-order-requires-3
     same-length-3
     returns-3
     taking-requires
-    answer-requires-4
+    answer-requires
     returns-4)
