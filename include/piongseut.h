@@ -76,7 +76,7 @@ extern "C" {
 #define PIONGSEUT_REFUSED_UNUSABLE 7         /* 02h, 0B 00 00  a packet drive's page 00h, whose own one cannot be used */
 #define PIONGSEUT_REFUSED_ROOM 8             /* none           the output room is shorter than the bytes to write */
 #define PIONGSEUT_REFUSED_PROTOCOL 9         /* 02h, 05 24 00  PROTOCOL is 2, 7, 12, 13 or 14 */
-#define PIONGSEUT_REFUSED_PENDING 10         /* 08h            an order is pending, and PROTOCOL is not 15 */
+#define PIONGSEUT_REFUSED_PENDING 10         /* 08h            an order waits for what is pending */
 #define PIONGSEUT_REFUSED_T_LENGTH 11        /* 02h, 05 24 00  T_LENGTH does not fit the protocol */
 #define PIONGSEUT_REFUSED_T_DIR 12           /* 02h, 05 24 00  T_DIR does not fit the protocol */
 #define PIONGSEUT_REFUSED_LENGTH_ZERO 13     /* 02h, 05 24 00  a data protocol with length 0 */

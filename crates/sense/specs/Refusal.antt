@@ -52,7 +52,7 @@ table =
     ∷ row noStatus 0x00 0x00 0x00
     -- 9: a protocol that is not served
     ∷ row checkCondition 0x05 0x24 0x00
-    -- 10: an order is pending
+    -- 10: an order waits for what is pending
     ∷ row busy 0x00 0x00 0x00
     -- 11: T_LENGTH does not fit the protocol
     ∷ row checkCondition 0x05 0x24 0x00
