@@ -241,7 +241,7 @@ book steps = History.bookOf History.begin steps
 pub record Accounted (steps : List Step) : Type 0 where
   -- the record holds the orders that were taken since the last completion,
   pub holds : History.waiting (book steps .pending) ≡ book steps .outstanding
-  -- none, one, or an order with a reset over it;
+  -- of which there are two at most, and then the second is a reset over the first, which is none;
   pub few : Stacked (book steps .outstanding)
   -- the next completion goes by them: the last one ends, with its own fields, and the one before it is lost;
   pub next-completion : (left : List ℕ) (form : ℕ) (room : List ℕ) → length left ≡ 11 → 22 ≤ length room → complete (book steps .pending) left form room ≡ completionOf (book steps .pending) (book steps .outstanding) left form room
