@@ -58,25 +58,11 @@ pub fn report(sense: &mut [u8], key: u8, asc: u8, ascq: u8, extend: bool, regist
     requires { ⌜ (length (now registers) ≡ 11) × (22 ≤ length (now sense)) ⌝ }
     ensures { λ _. ⌜ Wrote (now (sense .entry)) 0 (fixedSense key asc ascq (told extend (now (registers .entry)))) (now (sense .exit)) ⌝ }
 {
-    let bytes = [
-        0x70u8,
-        0x00u8,
-        key, // byte 2
-        registers[0],
-        registers[10],
-        registers[9],
-        registers[2],
-        0x0Au8, // byte 7
-        upper_bits(extend, registers),
-        registers[4],
-        registers[6],
-        registers[8],
-        asc,
-        ascq,
-        0x00u8,
-        0x00u8,
-        0x00u8,
-        0x00u8,
-    ];
-    room::copy(sense, 0, &bytes, 18);
+    room::store_four(sense, 0, 0x70, 0x00, key, registers[0]);
+    room::store_four(sense, 4, registers[10], registers[9], registers[2], 0x0A);
+    let upper = upper_bits(extend, registers);
+    room::store_four(sense, 8, upper, registers[4], registers[6], registers[8]);
+    room::store_four(sense, 12, asc, ascq, 0x00, 0x00);
+    let last = [0x00u8, 0x00u8];
+    room::copy(sense, 16, &last, 2);
 }

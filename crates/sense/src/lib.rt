@@ -9,7 +9,7 @@ ghost use mathlib.Core.List.{List};
 ghost use Prim.Native.Nat.{_<_, _≤_};
 ghost use lib.ListN.{length};
 ghost use Rattle.room.specs.Room.{Wrote};
-ghost use Rattle.sense.specs.Sense.{isFixed, descriptorSense, senseData, nothing, registers as told, upper as Sense·upper};
+ghost use Rattle.sense.specs.Sense.{isFixed, descriptorSense, senseData, nothing, registers as told, upper as Sense·upper, shown as Sense·shown};
 ghost use Rattle.sense.specs.Refusal.{rowOf, threeBytes, refusedSense};
 ghost use Rattle.sense.specs.Helpers.{Roomy};
 
@@ -115,12 +115,29 @@ fn upper(extend: bool, byte: u8) -> u8
     0
 }
 
+// The registers as the descriptor form shows them. They are stored four at a time: where all are read before the first is stored, the
+// compiler holds them on the stack.
+fn store_shown(sense: &mut [u8], extend: bool, registers: &[u8])
+    requires { ⌜ (length (now registers) ≡ 11) × (22 ≤ length (now sense)) ⌝ }
+    ensures { λ _. ⌜ Wrote (now (sense .entry)) 11 (Sense·shown extend (now (registers .entry))) (now (sense .exit)) ⌝ }
+{
+    let count = upper(extend, registers[1]);
+    let lba_low = upper(extend, registers[3]);
+    room::store_four(sense, 11, registers[0], count, registers[2], lba_low);
+    let lba_mid = upper(extend, registers[5]);
+    let lba_high = upper(extend, registers[7]);
+    room::store_four(sense, 15, registers[4], lba_mid, registers[6], lba_high);
+    let last = [registers[8], registers[9], registers[10]];
+    room::copy(sense, 19, &last, 3);
+}
+
 // Tells the drive's registers beside key, ASC and ASCQ in the descriptor form.
 fn report_descriptor(sense: &mut [u8], key: u8, asc: u8, ascq: u8, extend: bool, registers: &[u8])
     requires { ⌜ (length (now registers) ≡ 11) × (22 ≤ length (now sense)) ⌝ }
     ensures { λ _. ⌜ Wrote (now (sense .entry)) 0 (descriptorSense key asc ascq (told extend (now (registers .entry)))) (now (sense .exit)) ⌝ }
 {
-    let bytes = [
+    // behind them the status return descriptor
+    let head = [
         0x72u8,
         key,
         asc,
@@ -129,23 +146,12 @@ fn report_descriptor(sense: &mut [u8], key: u8, asc: u8, ascq: u8, extend: bool,
         0x00u8,
         0x00u8,
         0x0Eu8,
-        // the status return descriptor
         0x09u8,
         0x0Cu8,
-        upper(extend, 0x01),
-        registers[0],
-        upper(extend, registers[1]),
-        registers[2],
-        upper(extend, registers[3]),
-        registers[4],
-        upper(extend, registers[5]),
-        registers[6],
-        upper(extend, registers[7]),
-        registers[8],
-        registers[9],
-        registers[10],
+        rules::flag(extend),
     ];
-    room::copy(sense, 0, &bytes, 22);
+    room::copy(sense, 0, &head, 11);
+    store_shown(sense, extend, registers);
 }
 
 // Writes the sense data that tell the drive's registers beside key, ASC and ASCQ.
