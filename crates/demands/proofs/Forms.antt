@@ -25,7 +25,7 @@ use Rattle.passthrough_order.specs.Order.{orderOf}
 use Rattle.passthrough_checks.specs.Checks as Check
 use Rattle.passthrough_checks.proofs.Laws as PassLaws
 use Rattle.passthrough.specs.declared.Pending.{Pending}
-use Rattle.passthrough.specs.Record.{empty, nothingPending, resetPending, front}
+use Rattle.passthrough.specs.Record.{empty, nothingPending, resetPending}
 use Rattle.passthrough.specs.Submit as Submit
 use Rattle.passthrough.specs.Submit.{submit}
 use Rattle.passthrough.specs.Complete as Complete
@@ -104,7 +104,7 @@ module _ (form other : ℕ) (f : isFixed form ≡ true) (o : isFixed other ≡ f
 
   of-complete : (p : Pending) (registers : List ℕ) → ToldAlike (complete p registers form room .completed .ended .status) room (complete p registers form room .sense) (complete p registers other room .sense)
   unfolding complete Complete.refusalOf
-  of-complete p registers = by (eqb r 0) (failed registers) (isSet (front p .«ck_cond»)) refl
+  of-complete p registers = by (eqb r 0) (failed registers) (isSet (p .order .«ck_cond»)) refl
     where
       r : ℕ
       r = Complete.refusalOf p registers (length room)
@@ -116,8 +116,8 @@ module _ (form other : ℕ) (f : isFixed form ≡ true) (o : isFixed other ≡ f
       either g t error checked =
           cond t
           (Complete.outcome (Complete.answer empty 0 (cond error checkCondition (cond checked checkCondition good)) (lost p) (lostProtocol p))
-          (cond error (written room 0 (senseData g 0x0B 0x00 0x00 (showing (isSet (front p .extend)) registers)))
-          (cond checked (written room 0 (senseData g 0x01 0x00 0x1D (showing (isSet (front p .extend)) registers))) room)))
+          (cond error (written room 0 (senseData g 0x0B 0x00 0x00 (showing (isSet (p .order .extend)) registers)))
+          (cond checked (written room 0 (senseData g 0x01 0x00 0x1D (showing (isSet (p .order .extend)) registers))) room)))
           (Complete.refused p g r room)
 
       here : eqb r 0 ≡ true → 22 ≤ length room

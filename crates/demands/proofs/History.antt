@@ -12,7 +12,7 @@ use Rattle.passthrough_fields.specs.Fields.{protocol}
 use Rattle.passthrough_order.specs.declared.Order.{Order}
 use Rattle.passthrough_order.specs.Order.{reset, orderOf}
 use Rattle.passthrough.specs.declared.Pending.{Pending}
-use Rattle.passthrough.specs.Record.{nothingPending, resetOver, resetPending, taking, front}
+use Rattle.passthrough.specs.Record.{nothingPending, resetOver, resetPending, taking}
 use Rattle.passthrough.specs.Submit as Submit
 use Rattle.passthrough.specs.Submit.{submit}
 use Rattle.passthrough.specs.Complete as Complete
@@ -41,7 +41,7 @@ module _ (p : Pending) (command registers : List ℕ) (declared form : ℕ) (sen
 
   behind : (free : Bool) → nothingPending p ≡ free → (free ≡ false → (reset (protocol command) ≡ true) × (resetPending p ≡ false)) → waiting (taking p order) ≡ waiting p ++ (order ∷ [])
   behind true n o = rw n
-  behind false n o = rw (n, not-over p (o refl .1), reset-whole command declared (o refl .0))
+  behind false n o = rw (n, not-over p (o refl .1))
 
   stacked : (free : Bool) → nothingPending p ≡ free → (free ≡ false → (reset (protocol command) ≡ true) × (resetPending p ≡ false)) → Stacked (waiting (taking p order))
   stacked true n o = rw n tt
@@ -89,7 +89,7 @@ module _ (p : Pending) (registers : List ℕ) (form : ℕ) (sense : List ℕ) wh
   unfolding complete
   complete-settles = by (eqb ending 0) refl
     where
-      all : (over : Bool) → cond (eqb (flag over) 1) (p .order ∷ front p ∷ []) (front p ∷ []) ≡ cond over (p .order ∷ front p ∷ []) (front p ∷ [])
+      all : (over : Bool) → cond (eqb (flag over) 1) (p .older ∷ p .order ∷ []) (p .order ∷ []) ≡ cond over (p .older ∷ p .order ∷ []) (p .order ∷ [])
       all true = refl
       all false = refl
 

@@ -22,7 +22,7 @@ use Rattle.passthrough.specs.Submit as Submit
 use Rattle.passthrough.specs.Submit.{submit}
 use Rattle.passthrough.specs.Complete as Complete
 use Rattle.passthrough.specs.Complete.{complete, isSet}
-use Rattle.passthrough.proofs.Over.{reset-whole, taken-over}
+use Rattle.passthrough.proofs.Over.{taken-over}
 use Rattle.demands.specs.Promises.{Submission, outcomeOf, numberOf, orderFrom, DirectionFromTheFields, ataCommandAt, withCommand, OnlyTheCommandDiffers, OwnFlags, EndsBy, CompletedWithItsOwnFields, withNothingPending, TakenWhilePending, Protocol15KeepsTheRecord}
 use Rattle.demands.proofs.Refusals.{not-refused}
 
@@ -87,7 +87,7 @@ other false n rest h r = r
 ends-by : (free : Bool) (p : Pending) (c : List ℕ) (declared : ℕ) (left : List ℕ) (form : ℕ) (room sense : List ℕ) → nothingPending p ≡ free → (free ≡ false → reset (protocol c) ≡ true) → length left ≡ 11 → 22 ≤ length room → EndsBy p left form room (Submit.taken p (orderOf c declared) sense)
 unfolding complete Complete.refusalOf
 ends-by true p c declared left form room sense n o l r = rw (n, eq-eqb _ _ l, le-ltb _ _ r)
-ends-by false p c declared left form room sense n o l r = rw (n, reset-whole c declared (o refl), eq-eqb _ _ l, le-ltb _ _ r)
+ends-by false p c declared left form room sense n o l r = rw (n, eq-eqb _ _ l, le-ltb _ _ r)
 
 -- A command that was not refused is answered, or its order is taken.
 module _ (s : Submission) where

@@ -13,7 +13,7 @@ use Rattle.passthrough_order.specs.declared.Order.{Order}
 use Rattle.passthrough_checks.specs.Checks.{wrongSize}
 use Rattle.passthrough.specs.declared.Pending.{Pending}
 use Rattle.passthrough.specs.declared.Completed.{Completed}
-use Rattle.passthrough.specs.Record.{empty, nothingPending, resetOver, front}
+use Rattle.passthrough.specs.Record.{empty, nothingPending, resetOver}
 
 -- A flag of an order is set where it is not zero: an order that the board made has 0 or 1.
 abbrev pub isSet : ℕ → Bool
@@ -60,12 +60,12 @@ abbrev pub lost : Pending → ℕ
 lost pending = flag (resetOver pending)
 
 abbrev pub lostProtocol : Pending → ℕ
-lostProtocol pending = cond (resetOver pending) (pending .order .protocol) 0
+lostProtocol pending = cond (resetOver pending) (pending .older .protocol) 0
 
--- Completion ends the order in front by its own fields, and empties the record.
+-- Completion ends the order, or the reset over it, by its own fields, and empties the record.
 abbrev pub ended : Pending → List ℕ → ℕ → List ℕ → Outcome
 ended pending registers form sense =
-    outcome (answer empty 0 (endStatus (front pending) registers) (lost pending) (lostProtocol pending)) (endSense (front pending) registers form sense)
+    outcome (answer empty 0 (endStatus (pending .order) registers) (lost pending) (lostProtocol pending)) (endSense (pending .order) registers form sense)
 
 -- A refusal hands back the record that it was given, and nothing is lost.
 abbrev pub refused : Pending → ℕ → ℕ → List ℕ → Outcome

@@ -10,14 +10,14 @@ use Rattle.passthrough_order.specs.Order.{reset}
 use Rattle.passthrough.specs.declared.Pending.{Pending}
 use Rattle.passthrough.specs.declared.Taken.{Taken}
 use Rattle.passthrough.specs.declared.Ended.{Ended}
-use Rattle.passthrough.specs.Record.{empty, nothingPending, resetOver, front}
+use Rattle.passthrough.specs.Record.{empty, nothingPending, resetOver}
 use Rattle.passthrough.specs.Submit.{submit}
 use Rattle.passthrough.specs.Complete as Complete
 use Rattle.passthrough.specs.Complete.{complete, endStatus, endSense}
 
 -- The orders that wait in a record, the oldest first.
 abbrev pub waiting : Pending → List Order
-waiting pending = cond (nothingPending pending) [] (cond (resetOver pending) (pending .order ∷ front pending ∷ []) (front pending ∷ []))
+waiting pending = cond (nothingPending pending) [] (cond (resetOver pending) (pending .older ∷ pending .order ∷ []) (pending .order ∷ []))
 
 -- A step: a command is submitted, or what is pending is completed.
 pub data Step : Type 0 where
@@ -37,9 +37,9 @@ abbrev pub takes : Pending → Step → List Order
 takes pending (submitting command registers declared form sense) = takenOf (protocol command) (submit pending command registers declared form sense .submitted .taken)
 takes pending (completing registers form sense) = []
 
--- A completion that is not refused settles the order in front, which ends, and before it the older order where it is reported as lost.
+-- A completion that is not refused settles the order, which ends, and before it the older order where it is reported as lost.
 abbrev pub settledBy : Pending → Ended → List Order
-settledBy pending answered = cond (eqb (answered .number) 0) (cond (eqb (answered .lost) 1) (pending .order ∷ front pending ∷ []) (front pending ∷ [])) []
+settledBy pending answered = cond (eqb (answered .number) 0) (cond (eqb (answered .lost) 1) (pending .older ∷ pending .order ∷ []) (pending .order ∷ [])) []
 
 abbrev pub settles : Pending → Step → List Order
 settles pending (submitting command registers declared form sense) = []

@@ -3,19 +3,19 @@ use mathlib.Core.Bool.{Bool, cond, not, _&&_, _||_}
 use Prim.Native.Nat.{ℕ}
 use lib.Dec.{eqb}
 use Rattle.passthrough_order.specs.declared.Order.{Order}
-use Rattle.passthrough_order.specs.Order.{noOrder, reset, resetWith}
+use Rattle.passthrough_order.specs.Order.{noOrder, reset}
 use Rattle.passthrough.specs.declared.Pending.{Pending}
 
--- State 0 holds nothing, state 2 an order with a reset over it, and every other state an order.
+-- State 0 holds nothing, state 2 an order with a reset over it, and every other state an order. `order` is the one that completion ends:
+-- the order, or the reset over it; `older` is the order under a reset, and zero where there is none.
 abbrev pub empty : Pending
-empty = record { state = 0; «reset_protocol» = 0; «reset_quiet_seconds» = 0; order = noOrder }
+empty = record { state = 0; order = noOrder; older = noOrder }
 
 abbrev pub holding : Order → Pending
-holding order = record { state = 1; «reset_protocol» = 0; «reset_quiet_seconds» = 0; order = order }
+holding order = record { state = 1; order = order; older = noOrder }
 
--- Of a reset over an order the record has all that differs from another reset's.
 abbrev pub over : Order → Order → Pending
-over older order = record { state = 2; «reset_protocol» = order .protocol; «reset_quiet_seconds» = order .«quiet_seconds»; order = older }
+over older order = record { state = 2; order = order; older = older }
 
 abbrev pub nothingPending : Pending → Bool
 nothingPending pending = eqb (pending .state) 0
@@ -30,7 +30,3 @@ resetPending pending = resetOver pending || not (nothingPending pending) && rese
 -- The record with one more order taken: by itself where nothing is pending, else over the order that is.
 abbrev pub taking : Pending → Order → Pending
 taking pending order = cond (nothingPending pending) (holding order) (over (pending .order) order)
-
--- The order that completion ends: the reset over an order, or the order that there is.
-abbrev pub front : Pending → Order
-front pending = cond (resetOver pending) (resetWith (pending .«reset_protocol») (pending .«reset_quiet_seconds»)) (pending .order)

@@ -31,7 +31,7 @@ pub fn lost(pending: Pending) -> u8
 pub fn lost_protocol(pending: Pending) -> u8
     ensures { λ r. ⌜ r ≡ lostProtocol pending ⌝ }
 {
-    let older = pending.order;
+    let older = pending.older;
     if held::reset_over(pending) {
         return older.protocol;
     }

@@ -1,9 +1,9 @@
-// What a record holds: whether a reset is pending, one more order taken, and the order in front.
+// What a record holds: whether a reset is pending, and one more order taken.
 use crate::Pending;
 use passthrough_order::Order;
 use passthrough_order::read;
 ghost use mathlib.Core.Path.{_≡_};
-ghost use Rattle.passthrough.specs.Record.{resetOver, resetPending, taking as Record·taking, front as Record·front};
+ghost use Rattle.passthrough.specs.Record.{resetOver, resetPending, taking as Record·taking};
 
 // A reset is over an order.
 pub fn reset_over(pending: Pending) -> bool
@@ -28,25 +28,13 @@ pub fn taking(pending: Pending, order: Order) -> Pending
     if pending.state == 0 {
         return Pending {
             state: 1,
-            reset_protocol: 0,
-            reset_quiet_seconds: 0,
             order,
+            older: passthrough_order::no_order(),
         };
     }
     Pending {
         state: 2,
-        reset_protocol: order.protocol,
-        reset_quiet_seconds: order.quiet_seconds,
-        order: older,
+        order,
+        older,
     }
-}
-
-// The order that completion ends.
-pub fn front(pending: Pending) -> Order
-    ensures { λ r. ⌜ r ≡ Record·front pending ⌝ }
-{
-    if reset_over(pending) {
-        return read::reset_with(pending.reset_protocol, pending.reset_quiet_seconds);
-    }
-    pending.order
 }

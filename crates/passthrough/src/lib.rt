@@ -3,6 +3,7 @@
 mod finish;
 mod held;
 
+use passthrough_fields::length;
 use passthrough_order::Order;
 use passthrough_order::read;
 ghost use mathlib.Core.Path.{_≡_};
@@ -11,14 +12,13 @@ ghost use Rattle.passthrough.specs.Record.{empty as Record·empty};
 ghost use Rattle.passthrough.specs.Submit.{outcome as Submit·outcome, answer as Submit·answer, submit as Submit·submit};
 ghost use Rattle.passthrough.specs.Complete.{outcome as Complete·outcome, answer as Complete·answer, complete as Complete·complete};
 
-// The pending record. State 0 holds nothing, 2 an order with a reset over it, of which it has the two fields, and every other number
-// an order. Numbers only, and no gaps between them, so that C code can hold it as it is.
+// The pending record. State 0 holds nothing, 2 an order with a reset over it, and every other number an order. `order` is what
+// completion ends, `older` the order under a reset. Numbers only, and no gaps between them, so that C code can hold it as it is.
 #[repr(C)]
 pub struct Pending {
-    pub state: u8,
-    pub reset_protocol: u8,
-    pub reset_quiet_seconds: u16,
+    pub state: u32,
     pub order: Order,
+    pub older: Order,
 }
 
 // What comes back of a command: the refusal's number or 0, the status, and the order, zero where none was taken.
@@ -93,9 +93,8 @@ impl Pending {
     {
         Pending {
             state: 0,
-            reset_protocol: 0,
-            reset_quiet_seconds: 0,
             order: passthrough_order::no_order(),
+            older: passthrough_order::no_order(),
         }
     }
 
@@ -125,15 +124,16 @@ impl Pending {
             sense::report(sense, form, 0x01, 0x00, 0x1D, false, registers);
             return without_order(self, 0, sense::CHECK_CONDITION);
         }
-        let order = read::order(command, declared);
-        let late = passthrough_checks::length_fault(protocol, order.length, declared);
+        let bytes = length::in_bytes(command, declared);
+        let late = passthrough_checks::length_fault(protocol, bytes.0, declared);
         if late != 0 {
             return without_order(self, late, sense::refuse(sense, form, late));
         }
+        let order = read::order(command, declared);
         answer(held::taking(self, order), 0, sense::NONE, order)
     }
 
-    // The end of the order in front, with the registers that the drive left; an order that a reset is over is lost.
+    // The end of the order that is pending, or of the reset over it, with the registers that the drive left; an order under a reset is lost.
     pub fn complete(self, registers: &[u8], form: u8, sense: &mut [u8]) -> Completed
         ensures { λ r. ⌜ Complete·outcome r (now (sense .exit)) ≡ Complete·complete self (now (registers .entry)) form (now (sense .entry)) ⌝ }
     {
@@ -144,7 +144,7 @@ impl Pending {
         }
         let lost = finish::lost(self);
         let lost_protocol = finish::lost_protocol(self);
-        let status = finish::tell(held::front(self), registers, form, sense);
+        let status = finish::tell(self.order, registers, form, sense);
         end(empty, 0, status, lost, lost_protocol)
     }
 }

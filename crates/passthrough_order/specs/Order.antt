@@ -53,9 +53,9 @@ noOrder =
       direction = 0;
     }
 
--- The order of a reset is its protocol and how long the line stays quiet; it has one sector a block, no direction, and zero elsewhere.
-abbrev pub resetWith : ℕ → ℕ → Order
-resetWith p quiet =
+-- Of a reset only PROTOCOL and OFF_LINE are read; it has one sector a block, no direction, and zero elsewhere.
+abbrev pub resetOrder : List ℕ → Order
+resetOrder c =
     record {
       length = 0;
       features = 0;
@@ -63,19 +63,15 @@ resetWith p quiet =
       «lba_low» = 0;
       «lba_mid» = 0;
       «lba_high» = 0;
-      «quiet_seconds» = quiet;
+      «quiet_seconds» = quietSeconds (offLine c);
       «sectors_per_block» = 1;
       device = 0;
       command = 0;
-      protocol = p;
+      protocol = protocol c;
       «ck_cond» = 0;
       extend = 0;
       direction = 0;
     }
-
--- Of a reset's command only PROTOCOL and OFF_LINE are read.
-abbrev pub resetOrder : List ℕ → Order
-resetOrder c = resetWith (protocol c) (quietSeconds (offLine c))
 
 -- Of any other command every field is read.
 abbrev pub commandOrder : List ℕ → ℕ → Order

@@ -4,7 +4,7 @@ use passthrough_fields::length;
 ghost use mathlib.Core.Path.{_≡_};
 ghost use Prim.Native.Nat.{_<_, _^_};
 ghost use Rattle.passthrough_fields.specs.Helpers.{Whole};
-ghost use Rattle.passthrough_order.specs.Order.{withoutData, fromDrive, toDrive, withData, reset as Order·reset, directionOf, quietSeconds, resetWith, resetOrder, commandOrder, orderOf};
+ghost use Rattle.passthrough_order.specs.Order.{withoutData, fromDrive, toDrive, withData, reset as Order·reset, directionOf, quietSeconds, resetOrder, commandOrder, orderOf};
 
 // Protocols by number: without data, from the drive, to the drive, and all that have data.
 pub fn without_data(protocol: u8) -> bool
@@ -62,9 +62,10 @@ fn quiet_seconds(off_line: u8) -> u16
     power(off_line + 1) - 2
 }
 
-// The order of a reset, of its protocol and quiet seconds.
-pub fn reset_with(protocol: u8, quiet_seconds: u16) -> Order
-    ensures { λ r. ⌜ r ≡ resetWith protocol «quiet_seconds» ⌝ }
+// The order of a reset: protocol and quiet seconds, and nothing else of the command.
+fn reset_order(command: &[u8]) -> Order
+    requires { ⌜ Whole (now command) ⌝ }
+    ensures { λ r. ⌜ r ≡ resetOrder (now (command .entry)) ⌝ }
 {
     Order {
         length: 0,
@@ -73,24 +74,15 @@ pub fn reset_with(protocol: u8, quiet_seconds: u16) -> Order
         lba_low: 0,
         lba_mid: 0,
         lba_high: 0,
-        quiet_seconds,
+        quiet_seconds: quiet_seconds(passthrough_fields::off_line(command)),
         sectors_per_block: 1,
         device: 0,
         command: 0,
-        protocol,
+        protocol: passthrough_fields::protocol(command),
         ck_cond: 0,
         extend: 0,
         direction: 0,
     }
-}
-
-// The order of a reset: protocol and quiet seconds, and nothing else of the command.
-fn reset_order(command: &[u8]) -> Order
-    requires { ⌜ Whole (now command) ⌝ }
-    ensures { λ r. ⌜ r ≡ resetOrder (now (command .entry)) ⌝ }
-{
-    let quiet = quiet_seconds(passthrough_fields::off_line(command));
-    reset_with(passthrough_fields::protocol(command), quiet)
 }
 
 // The order of any other command.

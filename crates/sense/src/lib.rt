@@ -167,6 +167,8 @@ pub fn report(
     requires { ⌜ (length (now registers) ≡ 11) × (22 ≤ length (now sense)) ⌝ }
     ensures { λ _. ⌜ Wrote (now (sense .entry)) 0 (senseData form key asc ascq (told extend (now (registers .entry)))) (now (sense .exit)) ⌝ }
 {
+    // Taken here, before a byte is stored, the compiler hands on where they stand and not the slice.
+    let registers = &registers[..11];
     if is_fixed(form) {
         fixed::report(sense, key, asc, ascq, extend, registers);
         return;

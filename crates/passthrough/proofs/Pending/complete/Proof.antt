@@ -32,11 +32,8 @@ lost-requires c κs = search needs
 lost-protocol-requires : tie.Need-lost-protocol-requires
 lost-protocol-requires c κs = search needs
 
-front-requires : tie.Need-front-requires
-front-requires c κs = search needs
-
 tell-requires : tie.Need-tell-requires
-tell-requires c κs = ended-sized _ _ _ (sym (c .before .before .before .before .before .fault .ensures) ∙ c .before .before .before .before .if1 .left)
+tell-requires c κs = ended-sized _ _ _ (sym (c .before .before .before .before .fault .ensures) ∙ c .before .before .before .if1 .left)
 
 end-requires-2 : tie.Need-end-requires-2
 end-requires-2 c κs = search needs
@@ -46,7 +43,7 @@ same-length-2 c = search needs
 
 returns-2 : tie.Need-returns-2
 unfolding complete
-returns-2 c = simp (c .end2 .ensures, c .before .before .before .tell .ensures .0, c .before .before .before .tell .ensures .1, c .before .before .before .before .before .front .ensures, c .before .before .before .before .before .before .lost-protocol .ensures, c .before .before .before .before .before .before .before .lost .ensures, c .before .before .before .before .before .before .before .before .before .before .empty .ensures, ← c .before .before .before .before .before .before .before .before .before .fault .ensures, eq-eqb _ _ (c .before .before .before .before .before .before .before .before .if1 .left))
+returns-2 c = simp (c .end2 .ensures, c .before .before .before .tell .ensures .0, c .before .before .before .tell .ensures .1, c .before .before .before .before .before .lost-protocol .ensures, c .before .before .before .before .before .before .lost .ensures, c .before .before .before .before .before .before .before .before .before .empty .ensures, ← c .before .before .before .before .before .before .before .before .fault .ensures, eq-eqb _ _ (c .before .before .before .before .before .before .before .if1 .left))
 
 pub complete-spec : {M : Type 1} → statement M
 complete-spec =
@@ -60,7 +57,6 @@ complete-spec =
     returns
     lost-requires
     lost-protocol-requires
-    front-requires
     tell-requires
     end-requires-2
     same-length-2

@@ -8,7 +8,7 @@ use Rattle.passthrough_checks.specs.Checks.{refusalOf}
 use Rattle.passthrough_checks.specs.Helpers.{earlyRefusal}
 use Rattle.passthrough.specs.Record.{nothingPending, resetPending}
 use Rattle.passthrough.specs.Submit.{submit}
-use Rattle.passthrough_checks.proofs.Laws.{taken-sized, taken-whole, roomy, refused-early, refused-late, none-for-15, length-of-order}
+use Rattle.passthrough_checks.proofs.Laws.{taken-sized, taken-whole, roomy, refused-early, refused-late, none-for-15}
 use borrow.Author.Needs.{needs}
 use Rattle.passthrough.proofs.Pending.submit.Statement.{statement}
 use Rattle.passthrough.proofs.Pending.submit.Tie as tie
@@ -51,11 +51,8 @@ none-early c = sym (early-is (c .before)) ∙ c .if1 .left
 
 by-length : (c : tie.After-length-fault) → c .length-fault .result ≡ refusal (c .before .before .before .before)
 by-length c =
-    let e = c .before .before .before .before in
-    let a = c .before .before .before .before .before .before .before .before .before .before .before .args in
-    rw (c .before .before .before .protocol .ensures, c .before .order .ensures) at (c .length-fault .ensures)
-    ∙ length-of-order (a .command .now) (a .declared)
-    ∙ sym (refused-late _ _ _ _ _ _ (none-early e))
+    rw (c .before .before .before .protocol .ensures, c .before .in-bytes .ensures) at (c .length-fault .ensures)
+    ∙ sym (refused-late _ _ _ _ _ _ (none-early (c .before .before .before .before)))
 
 protocol-requires : tie.Need-protocol-requires
 protocol-requires c κs = taken-whole _ _ _ _ _ (none-early c)
@@ -78,8 +75,8 @@ returns-2 c =
     let a = c .before .before .before .before .before .before .before .before .before .before .before .before .before .before .args in
     rw (c .without-order2 .ensures, c .before .before .before .report .ensures .leaves, refused-late _ _ _ _ (a .declared) _ (none-early e), none-for-15 _ (a .declared) (sym p ∙ told), eq-eqb _ _ (sym p ∙ told))
 
-order-requires : tie.Need-order-requires
-order-requires c κs = protocol-requires (c .before .before) κs
+in-bytes-requires : tie.Need-in-bytes-requires
+in-bytes-requires c κs = protocol-requires (c .before .before) κs
 
 length-fault-requires : tie.Need-length-fault-requires
 length-fault-requires c κs = search needs
@@ -99,6 +96,9 @@ returns-3 c =
     let l = by-length (c .before .before .before .before .before .before) in
     rw (c .without-order3 .ensures, c .before .before .before .refuse2 .ensures .0, c .before .before .before .refuse2 .ensures .1, ← l, ne-eqb _ _ (c .before .before .before .before .before .if3 .taken))
 
+order-requires : tie.Need-order-requires
+order-requires c κs = protocol-requires (c .before .before .before .before .before) κs
+
 taking-requires : tie.Need-taking-requires
 taking-requires c κs = search needs
 
@@ -108,8 +108,8 @@ answer-requires c κs = search needs
 returns-4 : tie.Need-returns-4
 unfolding submit
 returns-4 c =
-    let l = by-length (c .before .before .before) in
-    rw (c .answer .ensures, c .before .taking .ensures, c .before .before .before .before .order .ensures, ← l, eq-eqb _ _ (c .before .before .if3 .left), ← c .before .before .before .before .before .before .protocol .ensures, ne-eqb _ _ (c .before .before .before .before .before .if2 .left))
+    let l = by-length (c .before .before .before .before) in
+    rw (c .answer .ensures, c .before .taking .ensures, c .before .before .order .ensures, ← l, eq-eqb _ _ (c .before .before .before .if3 .left), ← c .before .before .before .before .before .before .before .protocol .ensures, ne-eqb _ _ (c .before .before .before .before .before .before .if2 .left))
 
 pub submit-spec : {M : Type 1} → statement M
 submit-spec =
@@ -126,12 +126,13 @@ submit-spec =
     without-order-requires-2
     same-length-2
     returns-2
-    order-requires
+    in-bytes-requires
     length-fault-requires
     refuse-requires-2
     without-order-requires-3
     same-length-3
     returns-3
+    order-requires
     taking-requires
     answer-requires
     returns-4)

@@ -12,13 +12,9 @@ quiet-seconds-requires c κs = search needs
 protocol-requires : tie.Need-protocol-requires
 protocol-requires c κs = search needs
 
-reset-with-requires : tie.Need-reset-with-requires
-reset-with-requires c κs = search needs
-
 returns : tie.Need-returns
 returns c = cc
 
 pub reset-order-spec : {M : Type 1} → statement M
 reset-order-spec =
-    tie.close
-    (tie.spec off-line-requires quiet-seconds-requires protocol-requires reset-with-requires returns)
+    tie.close (tie.spec off-line-requires quiet-seconds-requires protocol-requires returns)
