@@ -76,7 +76,7 @@ extern "C" {
 #define PIONGSEUT_REFUSED_UNUSABLE 7         /* 02h, 0B 00 00  a packet drive's page 00h, whose own one cannot be used */
 #define PIONGSEUT_REFUSED_ROOM 8             /* none           the output room is shorter than the bytes to write */
 #define PIONGSEUT_REFUSED_PROTOCOL 9         /* 02h, 05 24 00  PROTOCOL is 2, 7, 12, 13 or 14 */
-#define PIONGSEUT_REFUSED_PENDING 10         /* 08h            an order waits for what is pending */
+#define PIONGSEUT_REFUSED_PENDING 10         /* 08h            an order is pending, and PROTOCOL is not 15 */
 #define PIONGSEUT_REFUSED_T_LENGTH 11        /* 02h, 05 24 00  T_LENGTH does not fit the protocol */
 #define PIONGSEUT_REFUSED_T_DIR 12           /* 02h, 05 24 00  T_DIR does not fit the protocol */
 #define PIONGSEUT_REFUSED_LENGTH_ZERO 13     /* 02h, 05 24 00  a data protocol with length 0 */
@@ -217,16 +217,14 @@ PIONGSEUT_HAS_SIZE(piongseut_order, 24)
 /*
  * The pending record: one order at most, and one reset over it. The caller keeps it and lends it to each call; begin with
  * piongseut_record_empty(). There is no padding in it, and every byte pattern is a valid record: one with any other state than these
- * three holds an order. The two fields of the reset are looked at in PIONGSEUT_STATE_RESET_OVER_ORDER alone; they are all of a reset
- * that differs from another's.
+ * three holds an order. `older` is looked at in PIONGSEUT_STATE_RESET_OVER_ORDER alone.
  */
 typedef struct {
-    uint8_t state;                /* PIONGSEUT_STATE_... */
-    uint8_t reset_protocol;       /* of the reset over the order */
-    uint16_t reset_quiet_seconds;
-    piongseut_order order;        /* the order; under a reset the older one */
+    uint32_t state;        /* PIONGSEUT_STATE_... */
+    piongseut_order order; /* what completion ends: the order, or the reset over it */
+    piongseut_order older; /* the order under the reset; all zero where an order was taken with nothing pending */
 } piongseut_record;
-PIONGSEUT_HAS_SIZE(piongseut_record, 28)
+PIONGSEUT_HAS_SIZE(piongseut_record, 52)
 
 typedef struct {
     uint8_t number; /* refusal number, 0 if none */
