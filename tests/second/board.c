@@ -91,7 +91,9 @@ static void take_order(piongseut_order *order)
 static void take_record(int keep)
 {
     piongseut_record sent;
-    sent.state = (uint32_t)take(4);
+    sent.state = (uint8_t)take(1);
+    sent.reset_protocol = (uint8_t)take(1);
+    sent.reset_quiet_seconds = (uint16_t)take(2);
     take_order(&sent.order);
     if (!keep)
         kept.record = sent;
@@ -175,7 +177,9 @@ static void put_order(const piongseut_order *order)
 
 static void put_record(const piongseut_record *record)
 {
-    put(record->state, 4);
+    put(record->state, 1);
+    put(record->reset_protocol, 1);
+    put(record->reset_quiet_seconds, 2);
     put_order(&record->order);
 }
 
@@ -278,6 +282,8 @@ static void call_complete(void)
     CALL(COMPLETE, answer = piongseut_complete(&kept.record, LENT(0), form, LENT(1)));
     put(answer.number, 1);
     put(answer.status, 1);
+    put(answer.lost, 1);
+    put(answer.lost_protocol, 1);
 }
 
 static void call_write(void)

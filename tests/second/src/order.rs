@@ -28,18 +28,81 @@ pub struct Order {
     pub direction: u8,
 }
 
-/// Room for one order, which waits for its completion (RULES 9). State 0 is
-/// nothing pending, any other state a pending order.
+/// Room for one order, which waits for its completion, and for a reset over it
+/// (RULES 9). State 0 is nothing pending, 2 an order with a reset over it, any
+/// other state a pending order. What can differ of a reset are its two fields.
 #[derive(Clone, Copy, Debug, Default, PartialEq, Eq)]
 pub struct Record {
-    pub state: u32,
+    pub state: u8,
+    pub reset_protocol: u8,
+    pub reset_quiet_seconds: u16,
     pub order: Order,
 }
 
+/// The states that the board itself leaves.
+pub const ONE_ORDER: u8 = 1;
+pub const RESET_OVER_ORDER: u8 = 2;
+
 impl Record {
     pub fn is_pending(&self) -> bool {
+        if fault::planted("reset-states-above-2-hold-nothing") {
+            return self.state == ONE_ORDER || self.state == RESET_OVER_ORDER;
+        }
         self.state != 0
     }
+
+    /// Whether it holds an order with a reset over it.
+    pub fn holds_both(&self) -> bool {
+        if fault::planted("reset-over-it-in-every-other-state") {
+            return self.state >= RESET_OVER_ORDER;
+        }
+        self.state == RESET_OVER_ORDER
+    }
+
+    /// Whether a reset is pending: over an order, or as the only order.
+    fn has_reset(&self) -> bool {
+        if fault::planted("reset-taken-over-both") && self.holds_both() {
+            return false;
+        }
+        if fault::planted("reset-taken-over-a-reset") {
+            return self.holds_both();
+        }
+        if fault::planted("reset-found-by-protocol-0-alone") {
+            return self.holds_both() || self.is_pending() && self.order.protocol == 0;
+        }
+        if fault::planted("reset-found-by-four-bits") {
+            return self.holds_both() || self.is_pending() && is_reset(self.order.protocol & 0x0F);
+        }
+        self.holds_both() || self.is_pending() && is_reset(self.order.protocol)
+    }
+
+    /// The order that a completion answers: the reset where there is one over
+    /// the order (RULES 9).
+    pub fn front(&self) -> Order {
+        if !self.holds_both() || fault::planted("reset-completed-after-the-order") {
+            return self.order;
+        }
+        Order {
+            ck_cond: from_older("reset-with-the-older-ck-cond", self.order.ck_cond),
+            extend: from_older("reset-with-the-older-extend", self.order.extend),
+            ..a_reset(self.reset_protocol, self.reset_quiet_seconds)
+        }
+    }
+}
+
+/// A reset asks for no registers and has none of 48 bits; for planted faults
+/// the older order does.
+fn from_older(fault: &str, older: u8) -> u8 {
+    if fault::planted(fault) {
+        older
+    } else {
+        0
+    }
+}
+
+/// Hard reset and software reset (RULES 8.4).
+fn is_reset(protocol: u8) -> bool {
+    protocol == 0 || protocol == 1
 }
 
 /// The answer to a pass-through command.
@@ -94,31 +157,123 @@ pub fn submit(
         Err(number) => return refuse(number, form, sense),
     };
     if fields.protocol == 15 {
-        if fault::planted("record-cleared-by-protocol-15") {
-            *record = Record::default();
-        }
+        spoil_by_response(record);
         return return_response(registers, form, sense);
     }
-    if record.is_pending() {
+    if has_no_place(record, &fields) {
         return refuse(refusal::PENDING, form, sense);
     }
     match make_order(&fields, declared) {
+        Ok(order) if record.is_pending() => put_over(record, order),
         Ok(order) => fill(record, order, form),
         Err(number) => refuse(number, form, sense),
+    }
+}
+
+/// For planted faults: protocol 15 leaves the record, whatever it holds.
+fn spoil_by_response(record: &mut Record) {
+    if fault::planted("record-cleared-by-protocol-15") {
+        *record = Record::default();
+    }
+    if !record.holds_both() {
+        return;
+    }
+    if fault::planted("reset-cleared-by-protocol-15") {
+        *record = one(record.order);
+    }
+    if fault::planted("reset-alone-left-by-protocol-15") {
+        *record = one(record.front());
+    }
+}
+
+/// Whether the record is taken for this command: a reset gets past an order,
+/// but not past a reset, and nothing else gets past anything (RULES 3, 10).
+fn has_no_place(record: &Record, fields: &Fields) -> bool {
+    let over_reset = record.has_reset() && fault::planted("reset-has-an-order-taken-over-it");
+    if over_reset && !is_reset(fields.protocol) {
+        return false;
+    }
+    if gets_past(fields) {
+        record.has_reset()
+    } else {
+        record.is_pending()
+    }
+}
+
+fn gets_past(fields: &Fields) -> bool {
+    let unread = fields.t_length == 0 && !fields.t_dir;
+    match fields.protocol {
+        _ if fault::planted("reset-refused-over-an-order") => false,
+        0 if fault::planted("reset-by-protocol-1-alone") => false,
+        1 if fault::planted("reset-by-protocol-0-alone") => false,
+        9 if fault::planted("reset-by-protocol-9-too") => true,
+        0 | 1 if fault::planted("reset-over-an-order-read-further") => unread,
+        protocol => is_reset(protocol),
+    }
+}
+
+/// A record with one order (RULES 9).
+pub fn one(order: Order) -> Record {
+    Record {
+        state: ONE_ORDER,
+        order,
+        ..Record::default()
+    }
+}
+
+/// Puts a reset over the order that the record holds, whose bytes stay
+/// (RULES 9).
+fn put_over(record: &mut Record, reset: Order) -> Taken {
+    let older = *record;
+    record.state = RESET_OVER_ORDER;
+    record.reset_protocol = reset.protocol;
+    record.reset_quiet_seconds = reset.quiet_seconds;
+    spoil_over(record, &older, reset);
+    if fault::planted("reset-answered-with-the-older-order") {
+        return take(older.order);
+    }
+    take(reset)
+}
+
+/// For planted faults of the record that such a reset leaves.
+fn spoil_over(record: &mut Record, older: &Record, reset: Order) {
+    if fault::planted("reset-throws-the-order-away") {
+        *record = one(reset);
+    }
+    if fault::planted("reset-put-for-the-order") {
+        record.order = reset;
+    }
+    if fault::planted("reset-counted-in-the-state") {
+        record.state = older.state.wrapping_add(1);
+    }
+    if fault::planted("reset-protocol-not-kept") {
+        record.reset_protocol = 0;
+    }
+    if fault::planted("reset-seconds-not-kept") {
+        record.reset_quiet_seconds = 0;
+    }
+    if fault::planted("reset-seconds-of-the-order") {
+        record.reset_quiet_seconds = older.order.quiet_seconds;
+    }
+    if fault::planted("reset-makes-the-order-tidy") {
+        record.order.ck_cond = u8::from(older.order.ck_cond != 0);
+        record.order.extend = u8::from(older.order.extend != 0);
     }
 }
 
 /// Puts an accepted order into the record.
 fn fill(record: &mut Record, order: Order, form: u8) -> Taken {
     if fault::planted("first-order-only") && is_a_later_one() {
-        *record = Record {
-            state: 1,
-            order: Order::default(),
-        };
+        *record = one(Order::default());
         return take(Order::default());
     }
+    let before = *record;
     if !fault::planted("submit-writes-nothing") {
-        *record = Record { state: 1, order };
+        *record = one(order);
+    }
+    if fault::planted("reset-fields-left-by-an-order") {
+        record.reset_protocol = before.reset_protocol;
+        record.reset_quiet_seconds = before.reset_quiet_seconds;
     }
     keep_form(record, form);
     take(order)
@@ -128,7 +283,7 @@ fn fill(record: &mut Record, order: Order, form: u8) -> Taken {
 /// so its form is nobody's to keep (RULES 9).
 fn keep_form(record: &mut Record, form: u8) {
     if fault::planted("form-kept-in-the-record") {
-        record.state |= u32::from(form) << 8;
+        record.reset_protocol = form;
     }
     if fault::planted("form-of-the-last-order") {
         LAST_FORM.store(form, Ordering::Relaxed);
@@ -140,7 +295,7 @@ pub fn kept_form(record: &Record) -> u8 {
     if fault::planted("form-of-the-last-order") {
         return LAST_FORM.load(Ordering::Relaxed);
     }
-    record.state.to_be_bytes()[2]
+    record.reset_protocol
 }
 
 static LAST_FORM: AtomicU8 = AtomicU8::new(0);
@@ -305,9 +460,14 @@ fn make_order(fields: &Fields, declared: u32) -> Result<Order, u8> {
 /// A reset has no registers to hand on: of the command only PROTOCOL and
 /// OFF_LINE count (RULES 8.3).
 fn reset_order(fields: &Fields) -> Order {
+    a_reset(fields.protocol, quiet_seconds(fields.off_line))
+}
+
+/// The reset of these two numbers, in which alone two resets differ.
+pub fn a_reset(protocol: u8, quiet_seconds: u16) -> Order {
     Order {
-        protocol: fields.protocol,
-        quiet_seconds: quiet_seconds(fields.off_line),
+        protocol,
+        quiet_seconds,
         sectors_per_block: 1,
         direction: NO_DATA,
         ..Order::default()

@@ -3,7 +3,7 @@
 mod common;
 
 use common::*;
-use second::{Ended, Order, Record};
+use second::{Order, Record};
 
 /// A 16-byte command with the given bytes 1 and 2 and unlike register bytes.
 fn command_16(byte_1: u8, byte_2: u8) -> [u8; 16] {
@@ -204,13 +204,17 @@ fn pending(ck_cond: u8, extend: u8) -> Record {
         extend,
         ..some_record().order
     };
-    Record { state: 1, order }
+    Record {
+        state: 1,
+        order,
+        ..Record::default()
+    }
 }
 
 fn check_end(record: Record, registers: [u8; 11], status: u8, wanted: &[u8]) {
     let mut record = record;
-    let (ended, sense) = end(&mut record, &registers, 30);
-    assert_eq!(ended, Ended { number: 0, status });
+    let (answer, sense) = end(&mut record, &registers, 30);
+    assert_eq!(answer, ended(0, status));
     check_sense(wanted, &sense);
     assert_eq!(record, Record::default());
 }
@@ -259,15 +263,13 @@ fn the_record_serves_again_and_again() {
         pass.record = given;
         let order = pass.order();
         assert_eq!(order.length, u32::from(count) * 512);
-        let mut record = Record { state: 1, order };
-        let (ended, _) = end(&mut record, &REGISTERS, 22);
-        assert_eq!(
-            ended,
-            Ended {
-                number: 0,
-                status: 0
-            }
-        );
+        let mut record = Record {
+            state: 1,
+            order,
+            ..Record::default()
+        };
+        let (answer, _) = end(&mut record, &REGISTERS, 22);
+        assert_eq!(answer, ended(0, 0));
         given = record;
     }
 }

@@ -4,7 +4,7 @@
 mod common;
 
 use common::*;
-use second::{write_page83, Ended, Record, Written};
+use second::{write_page83, Record, Written};
 
 #[test]
 fn inquiry_1_before_all() {
@@ -213,22 +213,10 @@ fn pass_through_12_before_13_and_14() {
 #[test]
 fn completion_1_before_15() {
     let mut record = Record::default();
-    let (ended, sense) = end(&mut record, &[0; 10], 30);
-    assert_eq!(
-        ended,
-        Ended {
-            number: 1,
-            status: 0xFF
-        }
-    );
-    let (ended, _) = end(&mut record, &REGISTERS, 21);
-    assert_eq!(
-        ended,
-        Ended {
-            number: 1,
-            status: 0xFF
-        }
-    );
+    let (answer, sense) = end(&mut record, &[0; 10], 30);
+    assert_eq!(answer, ended(1, 0xFF));
+    let (answer, _) = end(&mut record, &REGISTERS, 21);
+    assert_eq!(answer, ended(1, 0xFF));
     assert!(is_filled(&sense));
 }
 

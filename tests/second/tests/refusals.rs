@@ -3,7 +3,7 @@
 mod common;
 
 use common::*;
-use second::{read_page83, roll, write_page83, Ended, Record, Written};
+use second::{read_page83, roll, write_page83, Record, Written};
 
 const PAGE_83: [u8; 6] = [0x12, 0x01, 0x83, 0x00, 0xFF, 0x00];
 
@@ -48,14 +48,8 @@ fn row_1_pass_through_sizes() {
 fn row_1_completion_sizes() {
     for (registers, size) in [(0, 22), (10, 22), (12, 22), (11, 21), (11, 0)] {
         let mut record = some_record();
-        let (ended, sense) = end(&mut record, &vec![0; registers], size);
-        assert_eq!(
-            ended,
-            Ended {
-                number: 1,
-                status: 0xFF
-            }
-        );
+        let (answer, sense) = end(&mut record, &vec![0; registers], size);
+        assert_eq!(answer, ended(1, 0xFF));
         assert_eq!(record, some_record());
         assert!(is_filled(&sense));
     }
@@ -248,7 +242,7 @@ fn row_9_protocols() {
 
 #[test]
 fn row_10_pending() {
-    for protocol in [0, 1, 3, 4, 5, 6, 8, 9, 10, 11] {
+    for protocol in [3, 4, 5, 6, 8, 9, 10, 11] {
         let byte_2 = match protocol {
             3 | 8 | 9 => 0x00,
             5 | 11 => 0x06,
@@ -332,14 +326,8 @@ fn row_15_nothing_pending() {
     odd.state = 0;
     for given in [Record::default(), odd] {
         let mut record = given;
-        let (ended, sense) = end(&mut record, &REGISTERS, 30);
-        assert_eq!(
-            ended,
-            Ended {
-                number: 15,
-                status: 0xFF
-            }
-        );
+        let (answer, sense) = end(&mut record, &REGISTERS, 30);
+        assert_eq!(answer, ended(15, 0xFF));
         assert_eq!(record, given);
         assert!(is_filled(&sense));
     }

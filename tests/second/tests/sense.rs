@@ -4,7 +4,7 @@
 mod common;
 
 use common::*;
-use second::{Ended, Order, Record};
+use second::{Order, Record};
 
 /// Registers whose eleven bytes all differ, with an error in the status.
 const LEFT: [u8; 11] = [
@@ -17,15 +17,19 @@ fn pending(ck_cond: u8, extend: u8) -> Record {
         extend,
         ..some_record().order
     };
-    Record { state: 1, order }
+    Record {
+        state: 1,
+        order,
+        ..Record::default()
+    }
 }
 
 /// The sense room after a completion in this form, which is CHECK CONDITION.
 fn told(form: u8, record: Record, registers: [u8; 11]) -> Vec<u8> {
     let mut record = record;
-    let (ended, sense) = end_in_form(form, &mut record, &registers, 30);
+    let (answer, sense) = end_in_form(form, &mut record, &registers, 30);
     let (number, status) = (0, 0x02);
-    assert_eq!(ended, Ended { number, status });
+    assert_eq!(answer, ended(number, status));
     assert_eq!(record, Record::default());
     sense
 }
@@ -122,8 +126,8 @@ fn the_fixed_form_asks_for_as_much_room() {
         Ask::new(&[]).sense(size).refused(1);
         Pass::new(&[]).sense(size).refused(1);
         let mut record = pending(1, 0);
-        let (ended, sense) = end_in_form(1, &mut record, &REGISTERS, size);
-        assert_eq!((ended.number, ended.status), (1, 0xFF));
+        let (answer, sense) = end_in_form(1, &mut record, &REGISTERS, size);
+        assert_eq!(answer, ended(1, 0xFF));
         assert_eq!(record, pending(1, 0));
         assert!(is_filled(&sense));
     }

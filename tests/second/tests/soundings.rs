@@ -3,7 +3,7 @@
 mod common;
 
 use common::*;
-use second::{roll, rollcall, Ended, Record, Roll};
+use second::{roll, rollcall, Record, Roll};
 
 const C1_REPLY: [u8; 16] = [
     0x00, 0x83, 0x00, 0x0C, 0x01, 0x03, 0x00, 0x08, 0x50, 0x00, 0xC5, 0x00, 0x12, 0x34, 0x56, 0x78,
@@ -70,14 +70,8 @@ fn c11_protocol_2() {
 fn c12_check_power_mode_in_the_descriptor_form() {
     let (taken, mut record, _) = Pass::new(&C12).declared(0).form(2).run();
     assert_eq!((taken.number, taken.status), (0, 0xFF));
-    let (ended, sense) = end_in_form(2, &mut record, &REGISTERS, 30);
-    assert_eq!(
-        ended,
-        Ended {
-            number: 0,
-            status: 0x02
-        }
-    );
+    let (answer, sense) = end_in_form(2, &mut record, &REGISTERS, 30);
+    assert_eq!(answer, ended(0, 0x02));
     let wanted = [
         0x72, 0x01, 0x00, 0x1D, 0x00, 0x00, 0x00, 0x0E, 0x09, 0x0C, 0x00, 0x00, 0x00, 0xFF, 0x00,
         0x00, 0x00, 0x00, 0x00, 0x00, 0x00, 0x50,

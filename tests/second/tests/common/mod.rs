@@ -312,10 +312,22 @@ pub fn end_in_form(
     (ended, sense)
 }
 
+/// What a completion answers by which no order is lost.
+pub fn ended(number: u8, status: u8) -> Ended {
+    Ended {
+        number,
+        status,
+        lost: 0,
+        lost_protocol: 0,
+    }
+}
+
 /// A pending record whose numbers no command makes.
 pub fn some_record() -> Record {
     Record {
-        state: 0x8000_0007,
+        state: 0x87,
+        reset_protocol: 0x21,
+        reset_quiet_seconds: 888,
         order: Order {
             length: 0xDEAD_BEEF,
             features: 0x1122,

@@ -6,6 +6,7 @@ use crate::call::{
     INTAKE_TAKE, READ, ROLL, SUBMIT, WRITE,
 };
 use crate::lent::carries_name;
+use second::Record;
 
 /// A set of refusal numbers: bit n for number n.
 pub type Set = u32;
@@ -251,6 +252,17 @@ fn list_size(reply: &[u8]) -> Option<usize> {
     (reply[1] == 0 && rises && total < 256).then_some(total)
 }
 
+/// A reset waits for a reset alone, protocol 15 for nothing, and every other
+/// order for whatever is pending.
+fn has_no_place(record: &Record, protocol: u8) -> bool {
+    match (record.state, protocol) {
+        (0, _) | (_, 15) => false,
+        (2, _) => true,
+        (_, 0 | 1) => record.order.protocol <= 1,
+        _ => true,
+    }
+}
+
 fn to_submit(call: &Call, sizes: &[usize]) -> Set {
     let command = &call.pieces[0];
     let size = match command.first() {
@@ -263,7 +275,7 @@ fn to_submit(call: &Call, sizes: &[usize]) -> Set {
         (1, sizes[1] != 11 || sizes[2] < 22),
         (2, command.len() < size.max(1)),
         (3, size == 0 && !command.is_empty()),
-        (10, call.record.state != 0 && protocol != 15),
+        (10, has_no_place(&call.record, protocol)),
     ]);
     if before & 0b1100 != 0 {
         return before;

@@ -1,7 +1,7 @@
 //! A call of one of the board's functions: its bytes on the way to the board,
 //! and what the second program answers, as the board would write it.
 
-use second::{Census, Counted, Inquiry, Intake, Order, Record, Roll};
+use second::{Census, Counted, Ended, Inquiry, Intake, Order, Record, Roll};
 
 pub const EMPTY: u8 = 0;
 pub const INQUIRY: u8 = 1;
@@ -101,6 +101,8 @@ pub struct Call {
 pub struct Said {
     pub number: u8,
     pub record: Record,
+    /// Of a completion, whether an order was lost, and its protocol.
+    pub lost: (u8, u8),
 }
 
 impl Call {
@@ -194,12 +196,16 @@ impl Call {
         out.extend([0; 4]);
         out.push(self.function);
         out.push(0); // no guard was changed
-        let mut record = self.record;
+        let (mut record, mut lost) = (self.record, (0, 0));
         let number = match self.function {
             EMPTY => answer_empty(&record, out),
             INQUIRY => self.answer_inquiry(form, &record, out),
             SUBMIT => self.answer_submit(form, &mut record, out),
-            COMPLETE => self.answer_complete(form, &mut record, out),
+            COMPLETE => {
+                let ended = self.answer_complete(form, &mut record, out);
+                lost = (ended.lost, ended.lost_protocol);
+                ended.number
+            }
             WRITE => self.answer_write(&record, out),
             READ => self.answer_read(&record, out),
             ROLL => self.answer_roll(&record, out),
@@ -211,7 +217,11 @@ impl Call {
             _ => self.answer_census_feed(&record, out),
         };
         put_size(start, out);
-        Said { number, record }
+        Said {
+            number,
+            record,
+            lost,
+        }
     }
 
     fn answer_inquiry(&self, form: u8, record: &Record, out: &mut Vec<u8>) -> u8 {
@@ -240,15 +250,15 @@ impl Call {
         taken.number
     }
 
-    fn answer_complete(&self, form: u8, record: &mut Record, out: &mut Vec<u8>) -> u8 {
+    fn answer_complete(&self, form: u8, record: &mut Record, out: &mut Vec<u8>) -> Ended {
         let p = &self.pieces;
         let mut sense = p[1].clone();
         let ended = second::complete(record, &p[0], form, &mut sense);
-        out.extend([ended.number, ended.status]);
+        out.extend([ended.number, ended.status, ended.lost, ended.lost_protocol]);
         put_record(record, out);
         out.extend(&p[0]);
         out.extend(&sense);
-        ended.number
+        ended
     }
 
     fn answer_write(&self, record: &Record, out: &mut Vec<u8>) -> u8 {
@@ -423,7 +433,8 @@ fn put_size(start: usize, out: &mut [u8]) {
 }
 
 fn put_record(record: &Record, out: &mut Vec<u8>) {
-    out.extend(record.state.to_le_bytes());
+    out.extend([record.state, record.reset_protocol]);
+    out.extend(record.reset_quiet_seconds.to_le_bytes());
     put_order(&record.order, out);
 }
 
@@ -508,7 +519,9 @@ impl<'a> Bytes<'a> {
 
     pub fn record(&mut self) -> Option<Record> {
         Some(Record {
-            state: self.number(4)? as u32,
+            state: self.number(1)? as u8,
+            reset_protocol: self.number(1)? as u8,
+            reset_quiet_seconds: self.number(2)? as u16,
             order: self.order()?,
         })
     }

@@ -129,10 +129,12 @@ pub fn blocks() -> Vec<Vec<u8>> {
     all
 }
 
-/// An order that is pending and that no command makes.
-pub fn odd_record(state: u32, ck_cond: u8, extend: u8) -> Record {
+/// An order that is pending and that no command makes, and such a reset.
+pub fn odd_record(state: u8, ck_cond: u8, extend: u8) -> Record {
     Record {
         state,
+        reset_protocol: 0xFE,
+        reset_quiet_seconds: 888,
         order: Order {
             length: 0xDEAD_BEEF,
             features: 0x1122,
@@ -182,6 +184,13 @@ pub fn packet(mut call: Call, reply: &[u8]) -> Call {
 pub fn submit(command: &[u8], declared: u32) -> Call {
     let pieces = vec![command.to_vec(), REGISTERS.to_vec(), room(26)];
     Call::new(call::SUBMIT, pieces).declared(declared)
+}
+
+/// That record with an older order of this protocol.
+pub fn record_of(state: u8, protocol: u8) -> Record {
+    let mut record = odd_record(state, 0x80, 9);
+    record.order.protocol = protocol;
+    record
 }
 
 pub fn complete(record: Record, status: u8) -> Call {

@@ -21,6 +21,7 @@ mod numbers;
 mod orders;
 mod pages;
 mod random;
+mod resets;
 mod rolls;
 mod senses;
 mod show;
@@ -122,7 +123,7 @@ fn real_blocks(folder: &str) -> io::Result<Vec<Vec<u8>>> {
 /// A class of inputs that takes nothing but the board.
 type Inputs = fn(&mut Board);
 
-const CLASSES: [(&str, Inputs); 42] = [
+const CLASSES: [(&str, Inputs); 46] = [
     ("soundings C1 to C13", soundings::numbered),
     ("the other soundings", soundings::others),
     ("published examples", soundings::published),
@@ -139,6 +140,13 @@ const CLASSES: [(&str, Inputs); 42] = [
     ("orders: sizes of lent pieces", orders::sizes),
     ("orders: completion with every status", orders::completions),
     ("orders: records with odd contents", orders::odd_records),
+    ("resets: a hung order is got past", resets::stories),
+    ("resets: every protocol in every state", resets::states),
+    ("resets: completion in every state", resets::completions),
+    (
+        "resets: the fields of a reset over an order",
+        resets::fields,
+    ),
     ("sense: refusals in every form", senses::refusals),
     ("sense: every number of a form, by rooms", senses::numbers),
     ("sense: each register, in every form", senses::registers),
@@ -241,6 +249,8 @@ struct Agreed {
     classes: bool,
     /// The two forms of sense data.
     forms: bool,
+    /// Orders that were taken, and what was told of them.
+    orders: bool,
 }
 
 /// The classes that take a seed or the real blocks.
@@ -263,8 +273,10 @@ fn seeded(board: &mut Board, asked: &Asked) -> Agreed {
     let forms = senses::both(board, asked.seed, &asked.real);
     board.class("census: fleets of drives");
     let classes = censuses::fleets(board, &asked.real, asked.seed);
+    board.class("resets: records of random bytes");
+    resets::any_records(board, asked.seed);
     board.class("sequences through one record");
-    orders::sequences(board, asked.seed);
+    let orders = orders::sequences(board, asked.seed);
     if asked.calls > 0 {
         board.class("random and damaged inputs");
         random::calls(board, asked.seed, asked.calls, &asked.real);
@@ -275,6 +287,7 @@ fn seeded(board: &mut Board, asked: &Asked) -> Agreed {
         cuts,
         classes,
         forms,
+        orders,
     }
 }
 
@@ -315,6 +328,10 @@ fn own_answers(agreed: &Agreed, report: &mut Report) {
     report.check(
         agreed.forms,
         "sense: a form changes the sense bytes alone, and both tell the same",
+    );
+    report.check(
+        agreed.orders,
+        "sequences: an order is ended or told lost once, or still pending",
     );
 }
 

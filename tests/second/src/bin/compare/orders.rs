@@ -1,7 +1,7 @@
 //! Inputs of submit and complete.
 
 use crate::board::Board;
-use crate::call::Call;
+use crate::call::{Call, Said, COMPLETE, SUBMIT};
 use crate::lent::{self, odd_record, room};
 use crate::numbers::Numbers;
 use second::Record;
@@ -24,14 +24,14 @@ pub fn command(long: bool, byte_1: u8, byte_2: u8, numbers: (u16, u16), control:
     }
 }
 
-/// PROTOCOL by T_LENGTH by T_DIR by BYTE_BLOCK by EXTEND by pending or not,
-/// for both opcodes, with counts and declared lengths at their edges.
+/// PROTOCOL by T_LENGTH by T_DIR by BYTE_BLOCK by EXTEND by pending or not, for
+/// both opcodes, with counts and declared lengths at their edges.
 pub fn fields(board: &mut Board) {
     let numbers = [(0, 0), (1, 2), (2, 1), (0x0100, 0x00FF), (0xFFFF, 0xFFFF)];
     for bits in 0..1024_usize {
         let byte_1 = (bits & 0x1F) as u8;
         let byte_2 = (bits >> 5 & 0x0F) as u8;
-        let record = odd_record((bits >> 9) as u32, 1, 1);
+        let record = odd_record((bits >> 9) as u8, 1, 1);
         for long in [false, true] {
             for pair in numbers {
                 let command = command(long, byte_1, byte_2, pair, 0);
@@ -114,7 +114,7 @@ pub fn refused_commands() -> Vec<Vec<u8>> {
 pub fn refusals(board: &mut Board) {
     let sizes = [(11, 22), (11, 21), (10, 22), (12, 0)];
     for command in refused_commands() {
-        for state in [0, 1] {
+        for state in [0, 1, 2] {
             for declared in [0, 1, 511, 512] {
                 for (registers, sense) in sizes {
                     let call = lent::submit(&command, declared)
@@ -126,7 +126,7 @@ pub fn refusals(board: &mut Board) {
             }
         }
     }
-    for state in [0, 1, 7] {
+    for state in [0, 1, 2, 7] {
         for (registers, sense) in sizes {
             let call = lent::complete(odd_record(state, 1, 1), 0x50)
                 .piece(0, vec![0x51; registers])
@@ -160,7 +160,7 @@ pub fn sizes(board: &mut Board) {
     }
     for registers in 0..24 {
         for sense in 0..40 {
-            for state in [0, 1] {
+            for state in [0, 1, 2] {
                 let call = lent::complete(odd_record(state, 1, 0), 0x50)
                     .piece(0, vec![0x51; registers])
                     .piece(1, room(sense));
@@ -174,7 +174,7 @@ pub fn sizes(board: &mut Board) {
 pub fn completions(board: &mut Board) {
     for status in 0..=0xFF {
         for (ck_cond, extend) in [(0, 0), (0, 1), (1, 0), (1, 1)] {
-            for state in [0, 1] {
+            for state in [0, 1, 2] {
                 board.call(&lent::complete(odd_record(state, ck_cond, extend), status));
             }
         }
@@ -187,7 +187,7 @@ pub fn odd_records(board: &mut Board) {
     let command = command(true, 0x09, 0x2E, (1, 1), 0);
     let reset = self::command(false, 0x02, 0xC0, (1, 1), 0);
     let report = self::command(false, 0x1E, 0x00, (1, 1), 0);
-    for state in [0, 1, 2, 7, 0x0100, 0x0001_0000, 0x8000_0000, u32::MAX] {
+    for state in [0, 1, 2, 3, 7, 128, 254, 255] {
         for ck_cond in [0, 1, 2, 128, 200, 255] {
             for extend in [0, 1, 2, 9, 128, 254, 255] {
                 let record = odd_record(state, ck_cond, extend);
@@ -202,17 +202,67 @@ pub fn odd_records(board: &mut Board) {
     }
 }
 
-/// Long runs of submit and complete through one record, which the board keeps.
-pub fn sequences(board: &mut Board, seed: u64) {
+/// Long runs of submit and complete through one record, which the board keeps:
+/// whether every order that was taken is ended, or told lost, once, or is still
+/// pending, and every kind of step was made.
+pub fn sequences(board: &mut Board, seed: u64) -> bool {
+    let mut told = Told::default();
     for run in 0..12 {
         let mut numbers = Numbers::new(seed ^ (run << 32));
         let mut record = Record::default();
+        told.pending.clear();
         for step in 0..4000 {
             let mut call = a_step(&mut numbers);
             call.record = record;
             call.kept = step > 0;
-            record = board.call(&call).record;
+            let said = board.call(&call);
+            if !told.step(&call, &said) {
+                return false;
+            }
+            record = said.record;
         }
+    }
+    told.ended
+        .iter()
+        .chain(&told.busy)
+        .all(|&times| times > 100)
+}
+
+/// The orders of a sequence, by what was said of them alone.
+#[derive(Default)]
+struct Told {
+    /// The protocols of those that were taken and of which nothing was told yet.
+    pending: Vec<u8>,
+    /// How often a completion found nothing, an order, a reset, both.
+    ended: [u32; 4],
+    /// How often a reset and another order were BUSY.
+    busy: [u32; 2],
+}
+
+impl Told {
+    /// Whether a step tells of what is pending, and of nothing else.
+    fn step(&mut self, call: &Call, said: &Said) -> bool {
+        let protocol = call.pieces[0].get(1).map_or(0, |byte| byte >> 1 & 0x0F);
+        match (call.function, said.number) {
+            (SUBMIT, 0) if protocol != 15 => self.pending.push(protocol),
+            (SUBMIT, 10) => self.busy[usize::from(protocol > 1)] += 1,
+            (COMPLETE, 15) => self.ended[0] += 1,
+            (COMPLETE, 0) => return self.end(said.lost),
+            _ => {}
+        }
+        self.pending.len() <= 2
+    }
+
+    /// What was taken last ends, and what was taken before it is lost.
+    fn end(&mut self, lost: (u8, u8)) -> bool {
+        let last = self.pending.pop();
+        let older = self.pending.pop();
+        self.ended[match (last, older) {
+            (_, Some(_)) => 3,
+            (Some(0 | 1), None) => 2,
+            _ => 1,
+        }] += 1;
+        last.is_some() && lost == older.map_or((0, 0), |protocol| (1, protocol))
     }
 }
 

@@ -1,7 +1,7 @@
 //! Seeded random and damaged inputs of every function.
 
 use crate::board::Board;
-use crate::call::{sixteen_bits, Call, CENSUS_FEED, COMPLETE, INQUIRY};
+use crate::call::{sixteen_bits, Bytes, Call, CENSUS_FEED, COMPLETE, INQUIRY};
 use crate::censuses;
 use crate::lent;
 use crate::numbers::Numbers;
@@ -161,23 +161,28 @@ pub fn submit(numbers: &mut Numbers) -> Call {
     call
 }
 
-/// A record of any bytes; its state is 0 in one of two.
-fn odd_record(call: &mut Call, numbers: &mut Numbers) {
-    let state = if numbers.once_in(2) {
-        0
-    } else {
-        numbers.next() as u32
+/// A record of any bytes; its state is 0 in one of two, and else mostly one
+/// that the board leaves, with an order that a command makes.
+pub fn odd_record(call: &mut Call, numbers: &mut Numbers) {
+    call.record = Bytes(&numbers.bytes(28)).record().unwrap_or_default();
+    let order = &mut call.record.order;
+    order.ck_cond = numbers.pick(&[0, 1, order.ck_cond]);
+    order.extend = numbers.pick(&[0, 1, order.extend]);
+    order.protocol = numbers.pick(&[0, 1, order.protocol & 0x0F, order.protocol]);
+    call.record.state = match numbers.below(8) {
+        0..=3 => 0,
+        4..=5 => 2,
+        6 => 1,
+        _ => call.record.state,
     };
-    let (ck_cond, extend) = (numbers.pick(&[0, 1, 200]), numbers.pick(&[0, 1, 9]));
-    call.record = lent::odd_record(state, ck_cond, extend);
-    call.record.order.length = numbers.next() as u32;
-    call.record.order.protocol = numbers.byte();
 }
 
 pub fn complete(numbers: &mut Numbers) -> Call {
     let mut call = Call::new(COMPLETE, vec![numbers.bytes(11), numbers.bytes(22)]);
     odd_record(&mut call, numbers);
-    call.record.state |= u32::from(!numbers.once_in(4));
+    if call.record.state == 0 {
+        call.record.state = numbers.pick(&[0, 1, 1, 2]);
+    }
     if numbers.once_in(2) {
         call.pieces[0][10] &= 0xDE;
     }

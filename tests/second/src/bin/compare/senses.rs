@@ -28,7 +28,7 @@ pub fn any(numbers: &mut Numbers) -> u8 {
 pub fn refusals(board: &mut Board) {
     for form in FORMS {
         for command in orders::refused_commands() {
-            for state in [0, 1] {
+            for state in [0, 1, 2] {
                 let call = lent::submit(&command, 511).record(odd_record(state, 0, 0));
                 board.call(&call.form(form));
             }
@@ -42,7 +42,7 @@ pub fn refusals(board: &mut Board) {
             board.call(&lent::from_intake(call.clone(), 511));
             board.call(&lent::from_intake(call, 512));
         }
-        for state in [0, 1] {
+        for state in [0, 1, 2] {
             let call = lent::complete(odd_record(state, 1, 1), 0x50).form(form);
             board.call(&call.clone().piece(0, vec![0x50; 10]));
             board.call(&call);

@@ -79,7 +79,11 @@ fn came_back(function: u8, from: &mut Bytes) -> Option<String> {
             let (number, status) = (from.number(1)?, from.number(1)?);
             format!("number {number} status {status:02X} {:X?}", from.order()?)
         }
-        call::COMPLETE => format!("number {} status {:02X}", from.number(1)?, from.number(1)?),
+        call::COMPLETE => {
+            let (number, status) = (from.number(1)?, from.number(1)?);
+            let (lost, protocol) = (from.number(1)?, from.number(1)?);
+            format!("number {number} status {status:02X} lost {lost} lost protocol {protocol}")
+        }
         call::WRITE => counted(from)?,
         call::READ => {
             let (number, form) = (from.number(1)?, from.number(1)?);
