@@ -1,7 +1,8 @@
 /*
- * One record, lent to a long seeded run of submissions and completions, with refusals, PROTOCOL 15, drive errors, reset orders
- * and host resets between. A small model, written from docs/RULES.md, says after every step what must have come back and what every
- * lent byte must be.
+ * One record, lent to a long seeded run of submissions and completions, with refusals, PROTOCOL 15, drive errors, resets over orders,
+ * host resets and records of other bytes between. A small model, written from docs/RULES.md, says after every step what must have
+ * come back and what every lent byte must be; and a ledger, which knows what came back alone, says that every order that was taken is
+ * ended or told lost once, or is still pending.
  */
 #include "piongseut.h"
 
@@ -11,12 +12,15 @@
 
 enum { FILL = 0xA5, SENSE = PIONGSEUT_SENSE_SIZE + 2, REGISTERS_AT = PIONGSEUT_SENSE_SIZE - PIONGSEUT_REGISTERS_SIZE };
 
-/* The model's record: whether an order is pending, and which. */
-static int pending;
-static piongseut_order held;
+/* The model's record, byte by byte. */
+static piongseut_record model;
+
+/* What can be pending, and what a call can be that finds it so. */
+enum { NOTHING, ORDER, RESET, BOTH, PENDING };
+enum { REPORTS, RESETS, ORDERS, COMPLETES, MEETS };
 
 static uint64_t seed = 20;
-static unsigned seen[PIONGSEUT_REFUSED_NOT_A_PAGE], taken_orders, reports, completions[3], resets, told[2];
+static unsigned seen[PIONGSEUT_REFUSED_NOT_A_PAGE], met[PENDING][MEETS], completions[3], host_resets, told[2], lost_protocols[256];
 
 /* xorshift64: the same run on every machine. */
 static unsigned roll(unsigned below)
@@ -116,7 +120,53 @@ static int served(unsigned protocol)
            protocol == PIONGSEUT_PROTOCOL_DMA || protocol == PIONGSEUT_PROTOCOL_RETURN_RESPONSE_INFORMATION;
 }
 
+/* ---- The ledger ---- */
+
+/* The protocols of the orders that were taken and of which nothing is told yet, the oldest first; and what became of all others. */
+static uint8_t open_orders[2];
+static unsigned open_count, taken_orders, ended_orders, lost_orders, dropped_orders;
+
+static int enter(uint8_t protocol)
+{
+    taken_orders++;
+    if (open_count == 2) return 0;
+    open_orders[open_count++] = protocol;
+    return 1;
+}
+
+/* The order that was taken last ends. Where one is told lost it is the one before, and then none is open. */
+static int strike(const piongseut_complete_answer *answer)
+{
+    if (answer->number != PIONGSEUT_ACCEPTED) return answer->lost == 0 && answer->lost_protocol == 0;
+    if (open_count == 0) return 0;
+    open_count--;
+    ended_orders++;
+    if (open_count == 0) return answer->lost == 0 && answer->lost_protocol == 0;
+    open_count--;
+    lost_orders++;
+    return answer->lost == 1 && answer->lost_protocol == open_orders[0];
+}
+
+/* The host empties the record: what was pending has no end. */
+static void drop(void)
+{
+    dropped_orders += open_count;
+    open_count = 0;
+}
+
+static int balanced(void)
+{
+    return taken_orders == ended_orders + lost_orders + dropped_orders + open_count;
+}
+
 /* ---- The model ---- */
+
+static int pending(void)
+{
+    if (model.state == PIONGSEUT_STATE_NOTHING) return NOTHING;
+    if (model.state == PIONGSEUT_STATE_RESET_OVER_ORDER) return BOTH;
+    return resets_drive(model.order.protocol) ? RESET : ORDER;
+}
 
 static uint16_t wide(const uint8_t *command, int at, int extend)
 {
@@ -156,7 +206,7 @@ static uint8_t refusal(const uint8_t *command, uint32_t declared)
     if (command[15] & 4) return PIONGSEUT_REFUSED_FIELD;
     if (!served(protocol)) return PIONGSEUT_REFUSED_PROTOCOL;
     if (protocol == PIONGSEUT_PROTOCOL_RETURN_RESPONSE_INFORMATION) return PIONGSEUT_ACCEPTED;
-    if (pending) return PIONGSEUT_REFUSED_PENDING;
+    if (pending() != NOTHING && !(pending() == ORDER && resets_drive(protocol))) return PIONGSEUT_REFUSED_PENDING;
     if (resets_drive(protocol)) return PIONGSEUT_ACCEPTED;
     if (moves_no_data(protocol) != (field == 0)) return PIONGSEUT_REFUSED_T_LENGTH;
     if (moves_no_data(protocol)) return PIONGSEUT_ACCEPTED;
@@ -166,10 +216,29 @@ static uint8_t refusal(const uint8_t *command, uint32_t declared)
     return order.length > declared ? PIONGSEUT_REFUSED_ABOVE_DECLARED : PIONGSEUT_ACCEPTED;
 }
 
+/* Puts an accepted order into the model: by itself, or a reset over the order that is there. */
+static void hold(const piongseut_order *order)
+{
+    if (pending() == NOTHING) {
+        memset(&model, 0, sizeof model);
+        model.state = PIONGSEUT_STATE_ORDER;
+        model.order = *order;
+        return;
+    }
+    model.state = PIONGSEUT_STATE_RESET_OVER_ORDER;
+    model.reset_protocol = order->protocol;
+    model.reset_quiet_seconds = order->quiet_seconds;
+}
+
 static int same_record(const piongseut_record *record)
 {
-    return record->state == (pending ? PIONGSEUT_STATE_ORDER : PIONGSEUT_STATE_NOTHING) &&
-           (!pending || memcmp(&record->order, &held, sizeof held) == 0);
+    return memcmp(record, &model, sizeof model) == 0;
+}
+
+static void meet(unsigned protocol)
+{
+    const int report = protocol == PIONGSEUT_PROTOCOL_RETURN_RESPONSE_INFORMATION;
+    met[pending()][report ? REPORTS : resets_drive(protocol) ? RESETS : ORDERS]++;
 }
 
 /* ---- The run ---- */
@@ -177,16 +246,17 @@ static int same_record(const piongseut_record *record)
 /* A command with each field drawn, most often one that can be taken. */
 static void draw(uint8_t *command)
 {
-    static const uint8_t protocols[8] = {
-        PIONGSEUT_PROTOCOL_NON_DATA,     PIONGSEUT_PROTOCOL_PIO_DATA_IN,
-        PIONGSEUT_PROTOCOL_PIO_DATA_OUT, PIONGSEUT_PROTOCOL_DMA,
-        PIONGSEUT_PROTOCOL_SRST,         PIONGSEUT_PROTOCOL_EXECUTE_DEVICE_DIAGNOSTIC,
-        PIONGSEUT_PROTOCOL_UDMA_DATA_IN, PIONGSEUT_PROTOCOL_UDMA_DATA_OUT,
+    static const uint8_t protocols[] = {
+        PIONGSEUT_PROTOCOL_NON_DATA,           PIONGSEUT_PROTOCOL_PIO_DATA_IN,
+        PIONGSEUT_PROTOCOL_PIO_DATA_OUT,       PIONGSEUT_PROTOCOL_DMA,
+        PIONGSEUT_PROTOCOL_ATA_HARDWARE_RESET, PIONGSEUT_PROTOCOL_SRST,
+        PIONGSEUT_PROTOCOL_DEVICE_RESET,       PIONGSEUT_PROTOCOL_EXECUTE_DEVICE_DIAGNOSTIC,
+        PIONGSEUT_PROTOCOL_UDMA_DATA_IN,       PIONGSEUT_PROTOCOL_UDMA_DATA_OUT,
     };
     for (int at = 0; at < 16; at++) command[at] = (uint8_t)(roll(3) ? roll(256) : 0);
     command[0] = 0x85;
     command[15] = roll(20) ? 0 : 4;
-    const unsigned protocol = roll(4) ? protocols[roll(8)] : roll(16);
+    const unsigned protocol = roll(4) ? protocols[roll(sizeof protocols)] : roll(16);
     command[1] = (uint8_t)((command[1] & 0xE1) | protocol << 1);
     if (roll(8) == 0) return;
     command[2] &= 0xF4;
@@ -203,7 +273,6 @@ static int submission(piongseut_record *record, const uint8_t *registers)
     draw(command);
     memset(sense, FILL, SENSE);
     memset(wanted, FILL, SENSE);
-    const piongseut_record before = *record;
     const uint8_t number = refusal(command, declared);
     const piongseut_submit_answer got =
         piongseut_submit(record, command, sizeof command, registers, PIONGSEUT_REGISTERS_SIZE, declared, form, sense, SENSE);
@@ -211,18 +280,17 @@ static int submission(piongseut_record *record, const uint8_t *registers)
     memset(&order, 0, sizeof order);
     uint8_t status = number == PIONGSEUT_REFUSED_PENDING ? PIONGSEUT_BUSY : PIONGSEUT_CHECK_CONDITION;
     seen[number]++;
+    if (number == PIONGSEUT_ACCEPTED || number == PIONGSEUT_REFUSED_PENDING) meet(protocol_of(command));
     if (number != PIONGSEUT_ACCEPTED) {
         if (status == PIONGSEUT_CHECK_CONDITION) put_sense(wanted, form, 0x05, 0x24, 0x00);
     } else if (protocol_of(command) == PIONGSEUT_PROTOCOL_RETURN_RESPONSE_INFORMATION) {
         put_registers(wanted, form, 0x01, 0x1D, 0, registers);
-        reports++;
     } else {
         status = PIONGSEUT_NONE;
-        order = held = order_of(command, declared);
-        pending = 1;
-        taken_orders++;
+        order = order_of(command, declared);
+        hold(&order);
     }
-    if (status != PIONGSEUT_NONE && memcmp(record, &before, sizeof before) != 0) return 0;
+    if (got.number == PIONGSEUT_ACCEPTED && got.status == PIONGSEUT_NONE && !enter(got.order.protocol)) return 0;
     return got.number == number && got.status == status && memcmp(&got.order, &order, sizeof order) == 0 &&
            memcmp(sense, wanted, SENSE) == 0 && same_record(record);
 }
@@ -231,26 +299,59 @@ static int completion(piongseut_record *record, const uint8_t *registers)
 {
     uint8_t sense[SENSE], wanted[SENSE], status = PIONGSEUT_GOOD;
     const uint8_t form = draw_form();
+    const int found = pending(), over = found == BOTH;
+    /* A reset has neither; those of the order under it say nothing. */
+    const uint8_t extend = !over && model.order.extend, ck_cond = !over && model.order.ck_cond;
+    const uint8_t number = found ? PIONGSEUT_ACCEPTED : PIONGSEUT_REFUSED_NOTHING_PENDING;
+    const uint8_t protocol = over ? model.order.protocol : 0;
     memset(sense, FILL, SENSE);
     memset(wanted, FILL, SENSE);
     const piongseut_complete_answer got = piongseut_complete(record, registers, PIONGSEUT_REGISTERS_SIZE, form, sense, SENSE);
-    const uint8_t number = pending ? PIONGSEUT_ACCEPTED : PIONGSEUT_REFUSED_NOTHING_PENDING;
-    if (!pending) {
+    met[found][COMPLETES]++;
+    if (!found) {
         status = PIONGSEUT_NONE;
         seen[number]++;
     } else if (registers[PIONGSEUT_REGISTER_STATUS] & 0x21) {
         status = PIONGSEUT_CHECK_CONDITION;
-        put_registers(wanted, form, 0x0B, 0x00, held.extend, registers);
+        put_registers(wanted, form, 0x0B, 0x00, extend, registers);
         completions[0]++;
-    } else if (held.ck_cond) {
+    } else if (ck_cond) {
         status = PIONGSEUT_CHECK_CONDITION;
-        put_registers(wanted, form, 0x01, 0x1D, held.extend, registers);
+        put_registers(wanted, form, 0x01, 0x1D, extend, registers);
         completions[1]++;
     } else {
         completions[2]++;
     }
-    pending = 0;
-    return got.number == number && got.status == status && memcmp(sense, wanted, SENSE) == 0 && same_record(record);
+    if (over) lost_protocols[protocol]++;
+    if (found) memset(&model, 0, sizeof model);
+    return strike(&got) && got.number == number && got.status == status && got.lost == over && got.lost_protocol == protocol &&
+           memcmp(sense, wanted, SENSE) == 0 && same_record(record);
+}
+
+/*
+ * The host writes other bytes into the record, which mean the same: another number that is one order, what is not looked at while
+ * one is pending or none, and CK_COND and EXTEND that are not 1 where they are set.
+ */
+static void rewrite(piongseut_record *record)
+{
+    const int found = pending();
+    if (found == ORDER || found == RESET) model.state = (uint8_t)(roll(2) ? PIONGSEUT_STATE_ORDER : 3 + roll(253));
+    if (found != BOTH) {
+        model.reset_protocol = (uint8_t)roll(256);
+        model.reset_quiet_seconds = (uint16_t)roll(65536);
+    }
+    if (found == NOTHING) memset(&model.order, (int)roll(256), sizeof model.order);
+    if (model.order.ck_cond) model.order.ck_cond = (uint8_t)(1 + roll(255));
+    if (model.order.extend) model.order.extend = (uint8_t)(1 + roll(255));
+    *record = model;
+}
+
+static void reset_by_host(piongseut_record *record)
+{
+    *record = piongseut_record_empty();
+    memset(&model, 0, sizeof model);
+    drop();
+    host_resets++;
 }
 
 /* Nothing that a run is there to show may be missing from it. */
@@ -259,36 +360,42 @@ static int shown_all(void)
     if (seen[PIONGSEUT_REFUSED_FIELD] == 0) return 0;
     for (int number = PIONGSEUT_REFUSED_PROTOCOL; number <= PIONGSEUT_REFUSED_NOTHING_PENDING; number++)
         if (seen[number] == 0) return 0;
-    return taken_orders && reports && resets && completions[0] && completions[1] && completions[2] && told[0] && told[1];
+    for (int found = NOTHING; found < PENDING; found++)
+        for (int call = 0; call < MEETS; call++)
+            if (met[found][call] == 0) return 0;
+    for (unsigned protocol = 0; protocol < 256; protocol++) {
+        const int can_be = protocol < 15 && served(protocol) && !resets_drive(protocol);
+        if ((lost_protocols[protocol] != 0) != can_be) return 0;
+    }
+    return host_resets && completions[0] && completions[1] && completions[2] && told[0] && told[1];
+}
+
+static int step(piongseut_record *record)
+{
+    uint8_t registers[PIONGSEUT_REGISTERS_SIZE];
+    for (int at = 0; at < PIONGSEUT_REGISTERS_SIZE; at++) registers[at] = (uint8_t)(roll(3) ? roll(256) : 0);
+    if (roll(3)) registers[PIONGSEUT_REGISTER_STATUS] &= 0xDE;
+    if (roll(50) == 0) reset_by_host(record);
+    if (roll(10) == 0) rewrite(record);
+    return roll(5) < 3 ? submission(record, registers) : completion(record, registers);
 }
 
 int main(int count, char **words)
 {
     const long steps = count > 1 ? atol(words[1]) : 200000;
     piongseut_record record = piongseut_record_empty();
-    for (long step = 0; step < steps; step++) {
-        uint8_t registers[PIONGSEUT_REGISTERS_SIZE];
-        for (int at = 0; at < PIONGSEUT_REGISTERS_SIZE; at++) registers[at] = (uint8_t)(roll(3) ? roll(256) : 0);
-        if (roll(3)) registers[PIONGSEUT_REGISTER_STATUS] &= 0xDE;
-        int agreed = 1;
-        if (roll(50) == 0) { /* the host resets the board */
-            record = piongseut_record_empty();
-            pending = 0;
-            resets++;
-        } else {
-            agreed = roll(5) < 3 ? submission(&record, registers) : completion(&record, registers);
-        }
-        if (!agreed) {
-            printf("not ok step %ld of the run differs from the model\n", step);
+    for (long at = 0; at < steps; at++)
+        if (!step(&record) || !balanced()) {
+            printf("not ok step %ld of the run differs from the model or the ledger\n", at);
             return 1;
         }
-    }
     if (!shown_all()) {
         printf("not ok the run leaves out something that it is there to show\n");
         return 1;
     }
-    printf("ok %ld steps through one lent record: %u orders, %u reports, %u busy, %u errors, %u resets, %u fixed and %u descriptor "
-           "sense\n",
-           steps, taken_orders, reports, seen[PIONGSEUT_REFUSED_PENDING], completions[0], resets, told[1], told[0]);
+    printf("ok %ld steps through one lent record: %u orders (%u ended, %u lost, %u dropped by the host, %u pending), %u busy, %u errors, "
+           "%u host resets, %u fixed and %u descriptor sense\n",
+           steps, taken_orders, ended_orders, lost_orders, dropped_orders, open_count, seen[PIONGSEUT_REFUSED_PENDING], completions[0],
+           host_resets, told[1], told[0]);
     return 0;
 }

@@ -196,6 +196,16 @@ static piongseut_complete_answer complete(piongseut_record *record)
     return piongseut_complete(record, registers, sizeof registers, PIONGSEUT_SENSE_DESCRIPTOR, sense, sizeof sense);
 }
 
+static int ended_with(piongseut_complete_answer answer, uint8_t number, uint8_t status)
+{
+    return answer.number == number && answer.status == status;
+}
+
+static int nothing_lost(piongseut_complete_answer answer)
+{
+    return answer.lost == 0 && answer.lost_protocol == 0;
+}
+
 /* C6 is taken; then the record is busy, protocol 15 leaves it, and completion empties it. */
 static void one_order(void)
 {
@@ -222,12 +232,84 @@ static void one_order(void)
           "PROTOCOL 15 reports and leaves the record");
     prepare();
     piongseut_complete_answer ended = complete(&record);
-    check(ended.number == PIONGSEUT_ACCEPTED && ended.status == PIONGSEUT_GOOD && untouched(sense, sizeof sense) &&
+    check(ended_with(ended, PIONGSEUT_ACCEPTED, PIONGSEUT_GOOD) && nothing_lost(ended) && untouched(sense, sizeof sense) &&
               memcmp(&record, &empty, sizeof record) == 0,
-          "completion: GOOD, and the record is empty");
+          "completion: GOOD, nothing is lost, and the record is empty");
     ended = complete(&record);
-    check(ended.number == PIONGSEUT_REFUSED_NOTHING_PENDING && ended.status == PIONGSEUT_NONE,
+    check(ended_with(ended, PIONGSEUT_REFUSED_NOTHING_PENDING, PIONGSEUT_NONE) && nothing_lost(ended),
           "completion with nothing pending, 15");
+}
+
+/* While a reset is pending, a second one and an order are BUSY, and PROTOCOL 15 reports; all leave the record. */
+static void busy_with_reset(piongseut_record *record, const uint8_t *reset, const uint8_t *order)
+{
+    static const uint8_t report[12] = {0xA1, PIONGSEUT_PROTOCOL_RETURN_RESPONSE_INFORMATION << 1};
+    const piongseut_record before = *record;
+    prepare();
+    check(submit(record, reset, 12).number == PIONGSEUT_REFUSED_PENDING && untouched(sense, sizeof sense), "a second reset: BUSY, 10");
+    check(submit(record, order, 12).number == PIONGSEUT_REFUSED_PENDING && untouched(sense, sizeof sense), "an order over a reset, 10");
+    check(submit(record, report, 12).status == PIONGSEUT_CHECK_CONDITION && sense[3] == 0x1D, "PROTOCOL 15 while a reset is pending");
+    check(memcmp(record, &before, sizeof before) == 0, "none of these changes the record");
+    prepare();
+}
+
+/* An IDENTIFY DEVICE that asks for registers hangs; a reset is taken over it and ends; the next IDENTIFY DEVICE is taken. */
+static void hung_order(void)
+{
+    static const uint8_t identify[12] = {0xA1, PIONGSEUT_PROTOCOL_PIO_DATA_IN << 1, 0x2E, 0, 1, 0, 0, 0, 0, 0xEC, 0, 0};
+    static const uint8_t reset[12] = {0xA1, PIONGSEUT_PROTOCOL_SRST << 1, 0x80};
+    const piongseut_record empty = piongseut_record_empty();
+    piongseut_record record = empty;
+    prepare();
+    const piongseut_submit_answer hung = submit(&record, identify, sizeof identify);
+    const piongseut_submit_answer answer = submit(&record, reset, sizeof reset);
+    check(answer.number == PIONGSEUT_ACCEPTED && answer.status == PIONGSEUT_NONE && untouched(sense, sizeof sense) &&
+              answer.order.protocol == PIONGSEUT_PROTOCOL_SRST && answer.order.quiet_seconds == 6 && answer.order.command == 0,
+          "a reset is taken over a hung IDENTIFY DEVICE");
+    check(record.state == PIONGSEUT_STATE_RESET_OVER_ORDER && record.reset_protocol == PIONGSEUT_PROTOCOL_SRST &&
+              record.reset_quiet_seconds == 6 && memcmp(&record.order, &hung.order, sizeof hung.order) == 0,
+          "the record holds both");
+    busy_with_reset(&record, reset, identify);
+    const piongseut_complete_answer ended = complete(&record);
+    check(ended_with(ended, PIONGSEUT_ACCEPTED, PIONGSEUT_GOOD) && untouched(sense, sizeof sense),
+          "the reset ends GOOD, without the registers that IDENTIFY DEVICE asked for");
+    check(ended.lost == 1 && ended.lost_protocol == PIONGSEUT_PROTOCOL_PIO_DATA_IN, "IDENTIFY DEVICE is lost: protocol 4");
+    check(memcmp(&record, &empty, sizeof record) == 0, "the record is empty: both are gone");
+    check(complete(&record).number == PIONGSEUT_REFUSED_NOTHING_PENDING, "the lost order is not completed, 15");
+    check(submit(&record, identify, sizeof identify).number == PIONGSEUT_ACCEPTED && record.state == PIONGSEUT_STATE_ORDER,
+          "the next IDENTIFY DEVICE is taken");
+}
+
+/* A reset by itself is an order like others: it is pending, and ends without a loss. */
+static void single_reset(void)
+{
+    static const uint8_t identify[12] = {0xA1, PIONGSEUT_PROTOCOL_PIO_DATA_IN << 1, 0x2E, 0, 1, 0, 0, 0, 0, 0xEC, 0, 0};
+    static const uint8_t reset[12] = {0xA1, PIONGSEUT_PROTOCOL_ATA_HARDWARE_RESET << 1, 0x40};
+    piongseut_record record = piongseut_record_empty();
+    prepare();
+    const piongseut_submit_answer answer = submit(&record, reset, sizeof reset);
+    check(answer.number == PIONGSEUT_ACCEPTED && record.state == PIONGSEUT_STATE_ORDER && record.reset_protocol == 0 &&
+              record.reset_quiet_seconds == 0 && memcmp(&record.order, &answer.order, sizeof answer.order) == 0,
+          "a reset with nothing pending is the record's order");
+    busy_with_reset(&record, reset, identify);
+    const piongseut_complete_answer ended = complete(&record);
+    check(ended_with(ended, PIONGSEUT_ACCEPTED, PIONGSEUT_GOOD) && nothing_lost(ended), "it ends GOOD, and nothing is lost");
+}
+
+/* A record with a state number that the board leaves in none is one order, which a reset gets past. */
+static void other_state(void)
+{
+    static const uint8_t reset[12] = {0xA1, PIONGSEUT_PROTOCOL_SRST << 1};
+    piongseut_record record;
+    memset(&record, 0xFF, sizeof record);
+    const piongseut_record before = record;
+    prepare();
+    check(submit(&record, reset, sizeof reset).number == PIONGSEUT_ACCEPTED && record.state == PIONGSEUT_STATE_RESET_OVER_ORDER &&
+              memcmp(&record.order, &before.order, sizeof before.order) == 0,
+          "a record of ones holds an order; a reset is taken over it, and its bytes stay");
+    const piongseut_complete_answer ended = complete(&record);
+    check(ended_with(ended, PIONGSEUT_ACCEPTED, PIONGSEUT_GOOD) && ended.lost == 1 && ended.lost_protocol == 0xFF,
+          "the lost order's protocol is told as the record has it");
 }
 
 static void c12(void)
@@ -638,6 +720,9 @@ int main(void)
     packet_drives();
     refused_orders();
     one_order();
+    hung_order();
+    single_reset();
+    other_state();
     c12();
     register_places();
     fixed_refusals();
