@@ -110,6 +110,8 @@ static piongseut_record next_record(void)
 static void say_record(piongseut_record record)
 {
     say("state", record.state);
+    say("reset_protocol", record.reset_protocol);
+    say("reset_quiet_seconds", record.reset_quiet_seconds);
     say_order("held", record.order);
     say_bytes("record", (const uint8_t *)&record, sizeof record);
 }
@@ -171,6 +173,8 @@ static void complete(void)
         piongseut_complete(&record, registers.bytes, registers.size, (uint8_t)form, sense.bytes, sense.size);
     say("number", answer.number);
     say("status", answer.status);
+    say("lost", answer.lost);
+    say("lost_protocol", answer.lost_protocol);
     say_record(record);
     say_piece("sense", sense);
     free(registers.bytes);

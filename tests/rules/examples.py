@@ -209,6 +209,7 @@ class Trial:
         self.board, self.table, self.lent = board, table, lent
         empty = board.call("empty")
         self.record = self.emptied = empty["record"]
+        self.held = empty["held"]
         self.have, self.sum, self.store = empty["have"], empty["sum"], filled(512)
         self.counts = read_census("empty")
         self.made = {}
@@ -289,34 +290,43 @@ class Trial:
                        {"part of": lambda text: self.want("part of", text, names.get(got["shown"])),
                         **self.bytes_are("shown", part[:count]), **self.sense_is(sense, got)}, always)
 
-    def record_is(self, before, got):
+    def record_is(self, before, older, got):
+        """The order that was taken, by itself or, if it is a reset, over the one that was there; or bytes as they were."""
+        parts = got["state"], got["reset_protocol"], got["reset_quiet_seconds"], got["held"]
         def compare(text):
+            order = got.get("order")
             if text == "the order":
-                self.want("record", (1, got.get("order")), (got["state"], got["held"]))
+                self.want("record", (1, 0, 0, order), parts)
+            elif text == "both":
+                self.want("record", (2, order["protocol"], order["quiet_seconds"], older), parts)
             else:
                 self.want("record", {"as it was": before, "empty": self.emptied}[text], got["record"])
         return {"record": compare}
 
     def submit(self):
-        sense, before = self.sense(), self.record
+        sense, before, older = self.sense(), self.record, self.held
         got = self.board.call("submit", before, self.bytes("command"), self.bytes("registers"), int(self.lent["declared"]), self.form(), sense)
-        self.record = got["record"]
+        self.record, self.held = got["record"], got["held"]
         def always(named):
             self.told(named, sense, got)
             if got["number"]:
                 self.want("order of a refusal", read_order("zeros"), got["order"])
                 self.want("record after a refusal", before, got["record"])
         return Outcome(got, {"order": lambda text: self.want("order", read_order(text), got["order"]),
-                             **self.record_is(before, got), **self.sense_is(sense, got)}, always)
+                             **self.record_is(before, older, got), **self.sense_is(sense, got)}, always)
 
     def complete(self):
-        sense, before = self.sense(), self.record
+        sense, before, older = self.sense(), self.record, self.held
         got = self.board.call("complete", before, self.bytes("registers"), self.form(), sense)
-        self.record = got["record"]
+        self.record, self.held = got["record"], got["held"]
+        got["lost protocol"] = got.pop("lost_protocol")
         def always(named):
             self.told(named, sense, got)
             self.want("record afterwards", before if got["number"] else self.emptied, got["record"])
-        return Outcome(got, {**self.record_is(before, got), **self.sense_is(sense, got)}, always)
+            for name in ("lost", "lost protocol"):
+                if name not in named:
+                    self.want(name + ", which is not named", 0, got[name])
+        return Outcome(got, {**self.record_is(before, older, got), **self.sense_is(sense, got)}, always)
 
     def counted(self, got, before, name):
         """An entry that writes `count` bytes to the front of a room."""
