@@ -21,8 +21,46 @@ void bay_fill(bay *b, const char *description)
     if (!folder)
         die("PIONGSEUT_DATA is not set");
     b->record = piongseut_record_empty();
+    b->kept[0] = 0;
     if (drive_describe(&b->drive, description, folder, complaint, sizeof complaint) < 0)
         die(complaint);
+}
+
+/* ---- from one client to the next ---- */
+
+/* What a bay keeps. */
+typedef struct {
+    piongseut_record record;
+    uint8_t hangs, hung;
+} kept;
+
+void bay_keep(bay *b, const char *name)
+{
+    kept k;
+    const char *folder = getenv("PIONGSEUT_KEPT");
+    if (!folder)
+        return;
+    if (snprintf(b->kept, sizeof b->kept, "%s/%s", folder, name) >= (int)sizeof b->kept)
+        die("the name that PIONGSEUT_KEPT has is too long");
+    FILE *in = fopen(b->kept, "rb");
+    if (!in)
+        return;
+    if (fread(&k, sizeof k, 1, in) != 1)
+        die("a bay's file in the folder of PIONGSEUT_KEPT is cut short");
+    fclose(in);
+    b->record = k.record;
+    b->drive.hangs = k.hangs;
+    b->drive.hung = k.hung;
+}
+
+static void keep(const bay *b)
+{
+    const kept k = {b->record, b->drive.hangs, (uint8_t)b->drive.hung};
+    if (!b->kept[0])
+        return;
+    FILE *out = fopen(b->kept, "wb");
+    if (!out || fwrite(&k, sizeof k, 1, out) != 1 || fclose(out))
+        die("cannot write to the folder that PIONGSEUT_KEPT names");
 }
 
 /* ---- the log ---- */
@@ -44,7 +82,10 @@ static void log_command(const exchange *x, const char *who)
     }
     fprintf(out, "%s ", who);
     put_hex(out, x->command, x->command_size);
-    fprintf(out, " number=%u status=%02x moved=%zu sense=", x->number, x->status, x->moved);
+    fprintf(out, " number=%u status=%02x moved=%zu ", x->number, x->status, x->moved);
+    if (x->lost)
+        fprintf(out, "lost=%u ", x->lost_protocol);
+    fprintf(out, "sense=");
     put_hex(out, x->sense, sense_size(x));
     fputc('\n', out);
     fclose(out);
@@ -84,12 +125,17 @@ static void pass_through(bay *b, exchange *x)
         die("the board took an order longer than the host's buffer");
     /* a host that lends its buffer for the other direction gets no data and no status */
     int fits = s.order.direction == PIONGSEUT_DIRECTION_NONE || s.order.direction == x->direction;
-    if (fits)
-        x->moved = drive_execute(d, &s.order, x->data);
+    size_t moved = fits ? drive_execute(d, &s.order, x->data) : 0;
+    x->hung = moved == DRIVE_HUNG;
+    if (x->hung) /* the order stays pending, and the host gets no status */
+        return;
+    x->moved = moved;
     piongseut_complete_answer c = piongseut_complete(
         &b->record, d->registers, sizeof d->registers, d->form, x->sense, sizeof x->sense);
     x->number = c.number;
     x->status = fits ? c.status : PIONGSEUT_NONE;
+    x->lost = c.lost;
+    x->lost_protocol = c.lost_protocol;
 }
 
 /* On a packet drive A1h is the drive's own command BLANK, and so are all others but
@@ -112,5 +158,6 @@ void bay_carry(bay *b, exchange *x, const char *who)
         inquire(b, x);
     else
         pass_through(b, x);
+    keep(b);
     log_command(x, who);
 }

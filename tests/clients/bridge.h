@@ -5,15 +5,20 @@
 #include "drive.h"
 #include "exchange.h"
 
-/* The drive, and the board's record of a pending order. */
+/* The drive, the board's record of pending orders, and the file that keeps both, if any. */
 typedef struct {
     drive drive;
     piongseut_record record;
+    char kept[256];
 } bay;
 
 /* Puts in the drive that a description tells of; the program ends where there is none such.
    The variable PIONGSEUT_DATA names the folder of the IDENTIFY blocks. */
 void bay_fill(bay *b, const char *description);
+
+/* Keeps the record, and whether the drive hangs, in a file of this name in the folder that the
+   variable PIONGSEUT_KEPT names, and begins with what is there; without the variable, nothing. */
+void bay_keep(bay *b, const char *name);
 
 /* Carries a command through. Where it reached the board, the file that the variable
    PIONGSEUT_LOG names gets a line, which starts with who asked. */

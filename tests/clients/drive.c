@@ -100,6 +100,8 @@ static int property(drive *d, const char *folder, const char *key, const char *v
         d->failing = 1;
     else if (!strcmp(key, "cable") && !strcmp(value, "loose"))
         d->loose = 1;
+    else if (!strcmp(key, "hangs"))
+        d->hangs = (uint8_t)strtoul(value, NULL, 16);
     else if (!strcmp(key, "kind") && !strcmp(value, "packet"))
         become_packet(d);
     else if (!strcmp(key, "sense") && !strcmp(value, "fixed"))
@@ -296,9 +298,14 @@ size_t drive_execute(drive *d, const piongseut_order *order, uint8_t *data)
     uint8_t page[512] = {0};
     if (order->protocol == PIONGSEUT_PROTOCOL_ATA_HARDWARE_RESET ||
         order->protocol == PIONGSEUT_PROTOCOL_SRST) {
+        if (d->hung)
+            d->hung = d->hangs = 0;
         reset(d);
         return 0;
     }
+    d->hung = d->hung || (d->hangs && order->command == d->hangs);
+    if (d->hung)
+        return DRIVE_HUNG;
     load(d, order);
     int given = perform(d, order, page);
     /* An order whose length or direction does not fit the command moves nothing. */

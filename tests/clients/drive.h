@@ -19,7 +19,12 @@ typedef struct {
     int smart_off;
     int loose;            /* on a loose cable: its IDENTIFY block arrives changed */
     uint8_t form;         /* of the sense data that the host of this bay asks for */
+    uint8_t hangs;        /* the command at which it hangs, or 0 for none */
+    int hung;             /* it hangs now, and only a reset frees it; then it hangs no more */
 } drive;
+
+/* What moved where the drive hangs: the order has no end. */
+#define DRIVE_HUNG SIZE_MAX
 
 /* Makes the drive that a description tells of: after a first line that is skipped, one
    property a line. The folder holds the IDENTIFY blocks that a description names.
@@ -27,7 +32,7 @@ typedef struct {
 int drive_describe(drive *d, const char *text, const char *folder, char *complaint, size_t size);
 
 /* Carries out an order. Data goes to or comes from data (order->length bytes). Returns the
-   bytes that moved; d->registers holds what the drive then shows. */
+   bytes that moved, or DRIVE_HUNG; d->registers holds what the drive then shows. */
 size_t drive_execute(drive *d, const piongseut_order *order, uint8_t *data);
 
 /* A packet drive's own reply to an INQUIRY command; the bytes written to reply. */

@@ -14,6 +14,8 @@ typedef struct {
     size_t declared;
     int direction; /* the host's, in the order's numbers */
     uint8_t number, status, sense[SENSE];
+    uint8_t lost, lost_protocol; /* an order that a reset ended without a status */
+    int hung; /* the drive gave no end */
     size_t moved;
 } exchange;
 

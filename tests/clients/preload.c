@@ -3,7 +3,8 @@
    and a simulated drive in the place of the hardware. Every other file is left alone.
 
    PIONGSEUT_DATA  the folder of the IDENTIFY blocks
-   PIONGSEUT_LOG   a file that gets one line for each command that reached the board */
+   PIONGSEUT_LOG   a file that gets one line for each command that reached the board
+   PIONGSEUT_KEPT  a folder in which bays keep their records from one client to the next */
 #define _GNU_SOURCE
 #include <errno.h>
 #include <linux/fs.h>
@@ -37,6 +38,7 @@ static size_t nodes_used;
 
 static node *new_node(const struct stat *s, const char *text)
 {
+    char name[32];
     if (nodes_used == NODES) {
         fprintf(stderr, "piongseut preload: too many drives in one client\n");
         exit(120);
@@ -45,6 +47,8 @@ static node *new_node(const struct stat *s, const char *text)
     n->device = s->st_dev;
     n->number = s->st_ino;
     bay_fill(&n->bay, text);
+    snprintf(name, sizeof name, "%ju", (uintmax_t)s->st_ino);
+    bay_keep(&n->bay, name);
     return n;
 }
 

@@ -4,7 +4,7 @@
 #include <errno.h>
 #include <string.h>
 
-enum { DID_ERROR = 7, DRIVER_SENSE = 8 }; /* the kernel's numbers, in no public header */
+enum { DID_TIME_OUT = 3, DID_ERROR = 7, DRIVER_SENSE = 8 }; /* the kernel's numbers, in no public header */
 
 static int host_direction(const sg_io_hdr_t *h)
 {
@@ -40,9 +40,9 @@ void sg_report(sg_io_hdr_t *h, const exchange *x)
     h->host_status = 0;
     h->driver_status = 0;
     h->sb_len_wr = 0;
-    if (x->status == PIONGSEUT_NONE) { /* no status came back: the adapter reports an error */
+    if (x->status == PIONGSEUT_NONE) { /* no status came back: the adapter reports an error, or waits in vain */
         h->status = PIONGSEUT_GOOD;
-        h->host_status = DID_ERROR;
+        h->host_status = x->hung ? DID_TIME_OUT : DID_ERROR;
     }
     if (h->status == PIONGSEUT_CHECK_CONDITION) {
         h->driver_status = DRIVER_SENSE;
