@@ -78,9 +78,9 @@ struct measured {
 /*
  * How a call is made: for a drive without a name, for a packet drive, with an order pending, with one that asks for registers,
  * with an intake that has a part of its block, with blocks that carry a checksum, for sense data in the fixed form and not among
- * descriptors.
+ * descriptors, with a reset over the order.
  */
-enum { TEXTS = 1, PACKET = 2, HELD = 4, CK_COND = 8, PART = 16, SUMMED = 32, FIXED = 64 };
+enum { TEXTS = 1, PACKET = 2, HELD = 4, CK_COND = 8, PART = 16, SUMMED = 32, FIXED = 64, OVER = 128 };
 
 static _Alignas(64) uint8_t block[PIONGSEUT_BLOCK_SIZE], blocks[PIONGSEUT_ROLL_BLOCKS * PIONGSEUT_BLOCK_SIZE];
 static _Alignas(64) uint8_t page[PIONGSEUT_PAGE83_TEXT_SIZE];
@@ -123,7 +123,7 @@ static void make_complete(const measured *one, const maker *by, left *to)
 {
     piongseut_complete_answer answer;
     STACK_CALL(answer = by->complete(&to->record, registers, sizeof registers, form_of(one), to->sense, sizeof to->sense));
-    SAID(to, answer.number, answer.status);
+    SAID(to, answer.number, answer.status, answer.lost, answer.lost_protocol);
 }
 
 static void make_write(const measured *one, const maker *by, left *to)
@@ -230,11 +230,15 @@ static const measured calls[] = {
     {"empty", 0, 28, make_empty, 0, {0}},
     {"submit, IDENTIFY DEVICE", 130, 24 + 28, make_submit, 0, {0x85, 0x08, 0x2E, 0, 0, 0, 1, 0, 0, 0, 0, 0, 0, 0, 0xEC, 0}},
     {"submit, protocol 15", 0, 22, make_submit, HELD, {0x85, 0x1E}},
+    {"submit, reset", 0, 24 + 28, make_submit, 0, {0x85, 0x02}},
+    {"submit, reset over order", 0, 24 + 28, make_submit, HELD, {0x85, 0x02}},
+    {"submit, BUSY", 0, 0, make_submit, HELD | OVER, {0x85, 0x02}},
     {"submit, refusal, sense", 0, 8, make_submit, 0, {0x85, 0x04}},
     {"submit, refusal, fixed", 0, 18, make_submit, FIXED, {0x85, 0x04}},
     {"complete, CK_COND", 110, 28 + 22, make_complete, HELD | CK_COND, {0}},
     {"complete, CK_COND, fixed", 0, 28 + 18, make_complete, HELD | CK_COND | FIXED, {0}},
     {"complete, GOOD", 0, 28, make_complete, HELD, {0}},
+    {"complete, order lost", 0, 28, make_complete, HELD | CK_COND | OVER, {0}},
     {"write page 83h, name", 0, 16, make_write, 0, {0}},
     {"read page 83h, name", 0, 60, make_read, 0, {0}},
     {"write page 83h, texts", 0, 76, make_write, TEXTS, {0}},
@@ -254,7 +258,12 @@ static piongseut_record record_for(const measured *one)
 {
     piongseut_record record = {0};
     record.state = one->how & HELD ? PIONGSEUT_STATE_ORDER : PIONGSEUT_STATE_NOTHING;
+    record.order.protocol = one->how & HELD ? PIONGSEUT_PROTOCOL_PIO_DATA_IN : 0;
     record.order.ck_cond = one->how & CK_COND ? 1 : 0;
+    if (one->how & OVER) {
+        record.state = PIONGSEUT_STATE_RESET_OVER_ORDER;
+        record.reset_protocol = PIONGSEUT_PROTOCOL_SRST;
+    }
     return record;
 }
 

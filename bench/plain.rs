@@ -41,7 +41,9 @@ pub struct Order {
 #[repr(C)]
 #[derive(Clone, Copy, Default)]
 pub struct Pending {
-    state: u32,
+    state: u8,
+    reset_protocol: u8,
+    reset_quiet_seconds: u16,
     order: Order,
 }
 
@@ -56,6 +58,8 @@ pub struct Taken {
 pub struct Ended {
     number: u8,
     status: u8,
+    lost: u8,
+    lost_protocol: u8,
 }
 
 #[repr(C)]
@@ -389,28 +393,53 @@ fn submit(
         _ if asked.control & 4 != 0 => Err(4),
         2 | 7 | 12 | 13 | 14 => Err(9),
         15 => Ok((report([0x01, 0x00, 0x1D], false, registers, form, sense), Order::default())),
-        _ if record.state != 0 => Err(10),
+        protocol if !has_place(record, protocol) => Err(10),
         protocol => {
             let order = order_of(&asked, protocol, declared)?;
-            *record = Pending { state: 1, order };
+            hold(record, order);
             Ok((NONE, order))
         }
     }
 }
 
-fn complete(record: &mut Pending, registers: &[u8], form: u8, sense: &mut [u8]) -> Result<u8, u8> {
+/// Whether an order of this protocol is taken: all with nothing pending, and a reset over what is no reset.
+fn has_place(record: &Pending, protocol: u8) -> bool {
+    match record.state {
+        0 => true,
+        2 => false,
+        _ => protocol < 2 && record.order.protocol > 1,
+    }
+}
+
+/// A reset over an order leaves that as it is.
+fn hold(record: &mut Pending, order: Order) {
+    if record.state == 0 {
+        *record = Pending { state: 1, reset_protocol: 0, reset_quiet_seconds: 0, order };
+    } else {
+        record.state = 2;
+        record.reset_protocol = order.protocol;
+        record.reset_quiet_seconds = order.quiet_seconds;
+    }
+}
+
+/// The status, and the protocol of the order that is lost. A reset over it has neither CK_COND nor EXTEND.
+fn complete(record: &mut Pending, registers: &[u8], form: u8, sense: &mut [u8]) -> Result<(u8, Option<u8>), u8> {
     let registers: &[u8; 11] = registers.try_into().ok().filter(|_| sense.len() >= 22).ok_or(1)?;
     if record.state == 0 {
         return Err(15);
     }
-    let order = std::mem::take(record).order;
-    Ok(if registers[10] & 0x21 != 0 {
-        report([0x0B, 0x00, 0x00], order.extend != 0, registers, form, sense)
-    } else if order.ck_cond != 0 {
-        report([0x01, 0x00, 0x1D], order.extend != 0, registers, form, sense)
+    let over = record.state == 2;
+    let Order { protocol, ck_cond, extend, .. } = record.order;
+    *record = Pending::default();
+    let extend = !over && extend != 0;
+    let status = if registers[10] & 0x21 != 0 {
+        report([0x0B, 0x00, 0x00], extend, registers, form, sense)
+    } else if !over && ck_cond != 0 {
+        report([0x01, 0x00, 0x1D], extend, registers, form, sense)
     } else {
         GOOD
-    })
+    };
+    Ok((status, over.then(|| protocol)))
 }
 
 // ---- The reader of page 83h, and the roll ----
@@ -559,8 +588,8 @@ pub unsafe extern "C" fn plain_complete(
 ) -> Ended {
     let sense = lent_mut(sense, sense_size);
     match complete(record, lent(registers, registers_size), form, sense) {
-        Ok(status) => Ended { number: 0, status },
-        Err(number) => Ended { number, status: refuse(number, form, sense) },
+        Ok((status, lost)) => Ended { number: 0, status, lost: lost.is_some().into(), lost_protocol: lost.unwrap_or(0) },
+        Err(number) => Ended { number, status: refuse(number, form, sense), lost: 0, lost_protocol: 0 },
     }
 }
 
