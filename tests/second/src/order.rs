@@ -187,7 +187,7 @@ fn spoil_by_response(record: &mut Record) {
 }
 
 /// Whether the record is taken for this command: a reset gets past an order,
-/// but not past a reset, and nothing else gets past anything (RULES 3, 10).
+/// but not past a reset, and nothing else gets past anything (row 10, RULES 3).
 fn has_no_place(record: &Record, fields: &Fields) -> bool {
     let over_reset = record.has_reset() && fault::planted("reset-has-an-order-taken-over-it");
     if over_reset && !is_reset(fields.protocol) {
