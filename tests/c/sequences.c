@@ -1,8 +1,8 @@
 /*
  * One record, lent to a long seeded run of submissions and completions, with refusals, PROTOCOL 15, drive errors, resets over orders,
  * host resets and records of other bytes between. A small model, written from docs/RULES.md, says after every step what must have
- * come back and what every lent byte must be; and a ledger, which knows what came back alone, says that every order that was taken is
- * ended or told lost once, or is still pending.
+ * come back and what every lent byte must be; and a ledger, which knows nothing but what came back, says that every order that was
+ * taken is ended or told lost once, or is still pending.
  */
 #include "piongseut.h"
 
@@ -122,9 +122,12 @@ static int served(unsigned protocol)
 
 /* ---- The ledger ---- */
 
-/* The protocols of the orders that were taken and of which nothing is told yet, the oldest first; and what became of all others. */
+/* How many orders were taken, ended, told lost, and dropped by a host that empties the record: by what came back alone. */
+static unsigned taken_orders, ended_orders, lost_orders, dropped_orders;
+
+/* The protocols of those that were taken and of which nothing is told yet, the oldest first. */
 static uint8_t open_orders[2];
-static unsigned open_count, taken_orders, ended_orders, lost_orders, dropped_orders;
+static unsigned open_count;
 
 static int enter(uint8_t protocol)
 {
@@ -134,29 +137,33 @@ static int enter(uint8_t protocol)
     return 1;
 }
 
-/* The order that was taken last ends. Where one is told lost it is the one before, and then none is open. */
+/* Of what is open the newest ends, and the one before it, if any, is told lost; then none is open. */
 static int strike(const piongseut_complete_answer *answer)
 {
+    const unsigned open = open_count;
+    lost_orders += answer->lost;
     if (answer->number != PIONGSEUT_ACCEPTED) return answer->lost == 0 && answer->lost_protocol == 0;
-    if (open_count == 0) return 0;
-    open_count--;
     ended_orders++;
-    if (open_count == 0) return answer->lost == 0 && answer->lost_protocol == 0;
-    open_count--;
-    lost_orders++;
-    return answer->lost == 1 && answer->lost_protocol == open_orders[0];
+    open_count = 0;
+    if (open == 2) return answer->lost == 1 && answer->lost_protocol == open_orders[0];
+    return open == 1 && answer->lost == 0 && answer->lost_protocol == 0;
 }
 
-/* The host empties the record: what was pending has no end. */
-static void drop(void)
+static unsigned orders_in(const piongseut_record *record)
 {
-    dropped_orders += open_count;
+    if (record->state == PIONGSEUT_STATE_NOTHING) return 0;
+    return record->state == PIONGSEUT_STATE_RESET_OVER_ORDER ? 2 : 1;
+}
+
+static void drop(const piongseut_record *record)
+{
+    dropped_orders += orders_in(record);
     open_count = 0;
 }
 
-static int balanced(void)
+static int balanced(const piongseut_record *record)
 {
-    return taken_orders == ended_orders + lost_orders + dropped_orders + open_count;
+    return taken_orders == ended_orders + lost_orders + dropped_orders + orders_in(record);
 }
 
 /* ---- The model ---- */
@@ -348,9 +355,9 @@ static void rewrite(piongseut_record *record)
 
 static void reset_by_host(piongseut_record *record)
 {
+    drop(record);
     *record = piongseut_record_empty();
     memset(&model, 0, sizeof model);
-    drop();
     host_resets++;
 }
 
@@ -385,7 +392,7 @@ int main(int count, char **words)
     const long steps = count > 1 ? atol(words[1]) : 200000;
     piongseut_record record = piongseut_record_empty();
     for (long at = 0; at < steps; at++)
-        if (!step(&record) || !balanced()) {
+        if (!step(&record) || !balanced(&record)) {
             printf("not ok step %ld of the run differs from the model or the ledger\n", at);
             return 1;
         }
@@ -395,7 +402,7 @@ int main(int count, char **words)
     }
     printf("ok %ld steps through one lent record: %u orders (%u ended, %u lost, %u dropped by the host, %u pending), %u busy, %u errors, "
            "%u host resets, %u fixed and %u descriptor sense\n",
-           steps, taken_orders, ended_orders, lost_orders, dropped_orders, open_count, seen[PIONGSEUT_REFUSED_PENDING], completions[0],
+           steps, taken_orders, ended_orders, lost_orders, dropped_orders, orders_in(&record), seen[PIONGSEUT_REFUSED_PENDING], completions[0],
            host_resets, told[1], told[0]);
     return 0;
 }
