@@ -5,9 +5,9 @@
  *
  * A batch:   u32 bytes that follow, then calls.
  * A call:    u32 bytes that follow; u8 function (bit 7: with the record that the last call left, not the one sent);
- *            u32 declared; u8 form; the record, 28 bytes; the intake, 4 bytes; u8 number of pieces; a piece: u32 size, its bytes.
+ *            u32 declared; u8 form; the record, 52 bytes; the intake, 4 bytes; u8 number of pieces; a piece: u32 size, its bytes.
  * An answer: u32 bytes that follow; u8 function; u8 guard (0: untouched); the fields of what came back, in the header's order;
- *            the record, 28 bytes; the bytes of every piece, the const ones too.
+ *            the record, 52 bytes; the bytes of every piece, the const ones too.
  * INTAKE_INQUIRY and INTAKE_ROLL are two functions each, one after the other, as a C program uses them: the second is lent what
  * the first one counted. Where the first refuses, the second is not called, and its answer is one that has nothing. The census
  * that is fed is a piece, its 26 numbers in the header's order, and goes to the function by value.
@@ -91,10 +91,9 @@ static void take_order(piongseut_order *order)
 static void take_record(int keep)
 {
     piongseut_record sent;
-    sent.state = (uint8_t)take(1);
-    sent.reset_protocol = (uint8_t)take(1);
-    sent.reset_quiet_seconds = (uint16_t)take(2);
+    sent.state = (uint32_t)take(4);
     take_order(&sent.order);
+    take_order(&sent.older);
     if (!keep)
         kept.record = sent;
     memcpy(kept.before, guard, GUARD);
@@ -177,10 +176,9 @@ static void put_order(const piongseut_order *order)
 
 static void put_record(const piongseut_record *record)
 {
-    put(record->state, 1);
-    put(record->reset_protocol, 1);
-    put(record->reset_quiet_seconds, 2);
+    put(record->state, 4);
     put_order(&record->order);
+    put_order(&record->older);
 }
 
 static void put_intake(piongseut_intake of)

@@ -1,6 +1,6 @@
 //! Completion of an order (RULES 9).
 
-use crate::order::Record;
+use crate::order::{Order, Record};
 use crate::sense::{stated, write_refusal, write_report, Report};
 use crate::{fault, lent, order, refusal, sense};
 
@@ -37,16 +37,17 @@ pub fn complete(record: &mut Record, registers: &[u8], form: u8, sense: &mut [u8
 fn tell_lost(record: &Record, ended: &mut Ended) {
     if record.holds_both() && !fault::planted("lost-not-told") {
         ended.lost = 1;
-        ended.lost_protocol = record.order.protocol;
+        ended.lost_protocol = record.older.protocol;
     }
     spoil_lost(record, ended);
+    spoil_no_loss(record, ended);
 }
 
 /// For planted faults of what is told of the older order.
 fn spoil_lost(record: &Record, ended: &mut Ended) {
     let both = record.holds_both();
     if fault::planted("lost-protocol-of-the-reset") && both {
-        ended.lost_protocol = record.reset_protocol;
+        ended.lost_protocol = record.order.protocol;
     }
     if fault::planted("lost-protocol-of-four-bits") {
         ended.lost_protocol &= 0x0F;
@@ -58,7 +59,20 @@ fn spoil_lost(record: &Record, ended: &mut Ended) {
         ended.lost = u8::from(ended.lost_protocol != 0);
     }
     if fault::planted("lost-told-in-the-state-number") && both {
-        ended.lost = record.state;
+        ended.lost = record.state as u8;
+    }
+    if fault::planted("lost-told-by-the-older-bytes") {
+        ended.lost = u8::from(record.older != Order::default());
+    }
+    if fault::planted("lost-told-of-a-good-reset-alone") && ended.status != refusal::GOOD {
+        (ended.lost, ended.lost_protocol) = (0, 0);
+    }
+}
+
+/// For planted faults of a completion by which no order is lost.
+fn spoil_no_loss(record: &Record, ended: &mut Ended) {
+    if record.holds_both() {
+        return;
     }
     if fault::planted("lost-told-of-every-order") {
         (ended.lost, ended.lost_protocol) = (1, record.order.protocol);
@@ -66,18 +80,18 @@ fn spoil_lost(record: &Record, ended: &mut Ended) {
     if fault::planted("lost-protocol-of-every-order") {
         ended.lost_protocol = record.order.protocol;
     }
+    if fault::planted("lost-protocol-of-older-in-every-state") {
+        ended.lost_protocol = record.older.protocol;
+    }
     if fault::planted("lost-told-of-a-single-reset") && record.order.protocol < 2 {
         (ended.lost, ended.lost_protocol) = (1, record.order.protocol);
-    }
-    if fault::planted("lost-told-of-a-good-reset-alone") && ended.status != refusal::GOOD {
-        (ended.lost, ended.lost_protocol) = (0, 0);
     }
 }
 
 /// For a planted fault: a refused completion tells of no loss.
 fn spoil_refusal(record: &Record, mut refused: Ended) -> Ended {
     if fault::planted("lost-protocol-of-a-refusal") {
-        refused.lost_protocol = record.order.protocol;
+        refused.lost_protocol = record.older.protocol;
     }
     refused
 }
@@ -87,18 +101,19 @@ fn empty(record: &mut Record) {
     let ended = *record;
     *record = Record::default();
     if !ended.holds_both() {
+        if fault::planted("reset-older-left-by-a-single-end") {
+            record.older = ended.older;
+        }
         return;
     }
     if fault::planted("reset-leaves-the-order-pending") {
-        *record = order::one(ended.order);
+        *record = order::one(ended.older);
     }
     if fault::planted("reset-completed-after-the-order") {
-        let reset = order::a_reset(ended.reset_protocol, ended.reset_quiet_seconds);
-        *record = order::one(reset);
+        *record = order::one(ended.order);
     }
-    if fault::planted("reset-fields-left-by-completion") {
-        record.reset_protocol = ended.reset_protocol;
-        record.reset_quiet_seconds = ended.reset_quiet_seconds;
+    if fault::planted("reset-older-left-by-completion") {
+        record.older = ended.older;
     }
 }
 

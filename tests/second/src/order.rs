@@ -29,24 +29,26 @@ pub struct Order {
 }
 
 /// Room for one order, which waits for its completion, and for a reset over it
-/// (RULES 9). State 0 is nothing pending, 2 an order with a reset over it, any
-/// other state a pending order. What can differ of a reset are its two fields.
+/// (RULES 9). State 0 is nothing pending, 2 a reset with an older order under
+/// it, any other state a pending order. The older order counts in state 2 alone.
 #[derive(Clone, Copy, Debug, Default, PartialEq, Eq)]
 pub struct Record {
-    pub state: u8,
-    pub reset_protocol: u8,
-    pub reset_quiet_seconds: u16,
+    pub state: u32,
     pub order: Order,
+    pub older: Order,
 }
 
 /// The states that the board itself leaves.
-pub const ONE_ORDER: u8 = 1;
-pub const RESET_OVER_ORDER: u8 = 2;
+pub const ONE_ORDER: u32 = 1;
+pub const RESET_OVER_ORDER: u32 = 2;
 
 impl Record {
     pub fn is_pending(&self) -> bool {
         if fault::planted("reset-states-above-2-hold-nothing") {
             return self.state == ONE_ORDER || self.state == RESET_OVER_ORDER;
+        }
+        if fault::planted("reset-states-of-a-byte") {
+            return self.state as u8 != 0;
         }
         self.state != 0
     }
@@ -55,6 +57,9 @@ impl Record {
     pub fn holds_both(&self) -> bool {
         if fault::planted("reset-over-it-in-every-other-state") {
             return self.state >= RESET_OVER_ORDER;
+        }
+        if fault::planted("reset-over-it-by-half-the-state") {
+            return self.state & 0xFFFF == RESET_OVER_ORDER;
         }
         self.state == RESET_OVER_ORDER
     }
@@ -67,6 +72,12 @@ impl Record {
         if fault::planted("reset-taken-over-a-reset") {
             return self.holds_both();
         }
+        if fault::planted("reset-found-by-its-protocol-alone") {
+            return self.is_pending() && is_reset(self.order.protocol);
+        }
+        if fault::planted("reset-found-in-the-older-order") {
+            return self.holds_both() || self.is_pending() && is_reset(self.older.protocol);
+        }
         if fault::planted("reset-found-by-protocol-0-alone") {
             return self.holds_both() || self.is_pending() && self.order.protocol == 0;
         }
@@ -76,27 +87,33 @@ impl Record {
         self.holds_both() || self.is_pending() && is_reset(self.order.protocol)
     }
 
-    /// The order that a completion answers: the reset where there is one over
-    /// the order (RULES 9).
+    /// The order that a completion answers: where there are two the reset, with
+    /// the CK_COND and EXTEND that the record has of it (RULES 9).
     pub fn front(&self) -> Order {
-        if !self.holds_both() || fault::planted("reset-completed-after-the-order") {
-            return self.order;
+        let mut front = self.order;
+        if self.holds_both() {
+            spoil_front(&mut front, &self.older);
         }
-        Order {
-            ck_cond: from_older("reset-with-the-older-ck-cond", self.order.ck_cond),
-            extend: from_older("reset-with-the-older-extend", self.order.extend),
-            ..a_reset(self.reset_protocol, self.reset_quiet_seconds)
-        }
+        front
     }
 }
 
-/// A reset asks for no registers and has none of 48 bits; for planted faults
-/// the older order does.
-fn from_older(fault: &str, older: u8) -> u8 {
-    if fault::planted(fault) {
-        older
-    } else {
-        0
+/// For planted faults of what a completion of both answers.
+fn spoil_front(front: &mut Order, older: &Order) {
+    if fault::planted("reset-completed-after-the-order") {
+        *front = *older;
+    }
+    if fault::planted("reset-with-the-older-ck-cond") {
+        front.ck_cond = older.ck_cond;
+    }
+    if fault::planted("reset-with-the-older-extend") {
+        front.extend = older.extend;
+    }
+    if fault::planted("reset-without-its-ck-cond") {
+        front.ck_cond = 0;
+    }
+    if fault::planted("reset-without-its-extend") {
+        front.extend = 0;
     }
 }
 
@@ -179,10 +196,13 @@ fn spoil_by_response(record: &mut Record) {
         return;
     }
     if fault::planted("reset-cleared-by-protocol-15") {
-        *record = one(record.order);
+        *record = one(record.older);
     }
     if fault::planted("reset-alone-left-by-protocol-15") {
-        *record = one(record.front());
+        *record = one(record.order);
+    }
+    if fault::planted("reset-older-cleared-by-protocol-15") {
+        record.older = Order::default();
     }
 }
 
@@ -221,43 +241,65 @@ pub fn one(order: Order) -> Record {
     }
 }
 
-/// Puts a reset over the order that the record holds, whose bytes stay
-/// (RULES 9).
+/// Puts a reset over the order that the record holds, which goes under it byte
+/// for byte (RULES 9).
 fn put_over(record: &mut Record, reset: Order) -> Taken {
-    let older = *record;
-    record.state = RESET_OVER_ORDER;
-    record.reset_protocol = reset.protocol;
-    record.reset_quiet_seconds = reset.quiet_seconds;
-    spoil_over(record, &older, reset);
+    let before = *record;
+    *record = Record {
+        state: RESET_OVER_ORDER,
+        order: reset,
+        older: before.order,
+    };
+    spoil_over(record, &before);
+    spoil_older(record, &before);
     if fault::planted("reset-answered-with-the-older-order") {
-        return take(older.order);
+        return take(before.order);
     }
     take(reset)
 }
 
 /// For planted faults of the record that such a reset leaves.
-fn spoil_over(record: &mut Record, older: &Record, reset: Order) {
+fn spoil_over(record: &mut Record, before: &Record) {
     if fault::planted("reset-throws-the-order-away") {
-        *record = one(reset);
+        *record = one(record.order);
     }
-    if fault::planted("reset-put-for-the-order") {
-        record.order = reset;
+    if fault::planted("reset-put-under-the-order") {
+        std::mem::swap(&mut record.order, &mut record.older);
     }
     if fault::planted("reset-counted-in-the-state") {
-        record.state = older.state.wrapping_add(1);
+        record.state = before.state.wrapping_add(1);
     }
     if fault::planted("reset-protocol-not-kept") {
-        record.reset_protocol = 0;
+        record.order.protocol = 0;
     }
     if fault::planted("reset-seconds-not-kept") {
-        record.reset_quiet_seconds = 0;
+        record.order.quiet_seconds = 0;
     }
     if fault::planted("reset-seconds-of-the-order") {
-        record.reset_quiet_seconds = older.order.quiet_seconds;
+        record.order.quiet_seconds = before.order.quiet_seconds;
+    }
+    if fault::planted("reset-kept-with-the-older-ck-cond") {
+        record.order.ck_cond = before.order.ck_cond;
+    }
+}
+
+/// For planted faults of the order under such a reset.
+fn spoil_older(record: &mut Record, before: &Record) {
+    if fault::planted("reset-put-for-the-order") {
+        record.older = record.order;
+    }
+    if fault::planted("reset-leaves-older-as-it-was") {
+        record.older = before.older;
+    }
+    if fault::planted("reset-keeps-the-protocol-alone") {
+        record.older = Order {
+            protocol: before.order.protocol,
+            ..Order::default()
+        };
     }
     if fault::planted("reset-makes-the-order-tidy") {
-        record.order.ck_cond = u8::from(older.order.ck_cond != 0);
-        record.order.extend = u8::from(older.order.extend != 0);
+        record.older.ck_cond = u8::from(before.order.ck_cond != 0);
+        record.older.extend = u8::from(before.order.extend != 0);
     }
 }
 
@@ -271,9 +313,11 @@ fn fill(record: &mut Record, order: Order, form: u8) -> Taken {
     if !fault::planted("submit-writes-nothing") {
         *record = one(order);
     }
-    if fault::planted("reset-fields-left-by-an-order") {
-        record.reset_protocol = before.reset_protocol;
-        record.reset_quiet_seconds = before.reset_quiet_seconds;
+    if fault::planted("reset-older-left-by-an-order") {
+        record.older = before.older;
+    }
+    if fault::planted("reset-older-filled-by-an-order") {
+        record.older = order;
     }
     keep_form(record, form);
     take(order)
@@ -283,7 +327,7 @@ fn fill(record: &mut Record, order: Order, form: u8) -> Taken {
 /// so its form is nobody's to keep (RULES 9).
 fn keep_form(record: &mut Record, form: u8) {
     if fault::planted("form-kept-in-the-record") {
-        record.reset_protocol = form;
+        record.state |= u32::from(form) << 8;
     }
     if fault::planted("form-of-the-last-order") {
         LAST_FORM.store(form, Ordering::Relaxed);
@@ -295,7 +339,7 @@ pub fn kept_form(record: &Record) -> u8 {
     if fault::planted("form-of-the-last-order") {
         return LAST_FORM.load(Ordering::Relaxed);
     }
-    record.reset_protocol
+    record.state.to_be_bytes()[2]
 }
 
 static LAST_FORM: AtomicU8 = AtomicU8::new(0);
@@ -460,14 +504,9 @@ fn make_order(fields: &Fields, declared: u32) -> Result<Order, u8> {
 /// A reset has no registers to hand on: of the command only PROTOCOL and
 /// OFF_LINE count (RULES 8.3).
 fn reset_order(fields: &Fields) -> Order {
-    a_reset(fields.protocol, quiet_seconds(fields.off_line))
-}
-
-/// The reset of these two numbers, in which alone two resets differ.
-pub fn a_reset(protocol: u8, quiet_seconds: u16) -> Order {
     Order {
-        protocol,
-        quiet_seconds,
+        protocol: fields.protocol,
+        quiet_seconds: quiet_seconds(fields.off_line),
         sectors_per_block: 1,
         direction: NO_DATA,
         ..Order::default()

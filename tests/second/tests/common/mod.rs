@@ -325,9 +325,7 @@ pub fn ended(number: u8, status: u8) -> Ended {
 /// A pending record whose numbers no command makes.
 pub fn some_record() -> Record {
     Record {
-        state: 0x87,
-        reset_protocol: 0x21,
-        reset_quiet_seconds: 888,
+        state: 0x8000_0007,
         order: Order {
             length: 0xDEAD_BEEF,
             features: 0x1122,
@@ -343,6 +341,13 @@ pub fn some_record() -> Record {
             ck_cond: 0x80,
             extend: 0x40,
             direction: 0xEE,
+        },
+        older: Order {
+            length: 0xFEED_FACE,
+            protocol: 0x21,
+            ck_cond: 0x10,
+            extend: 0x20,
+            ..Order::default()
         },
     }
 }

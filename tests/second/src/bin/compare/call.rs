@@ -433,9 +433,9 @@ fn put_size(start: usize, out: &mut [u8]) {
 }
 
 fn put_record(record: &Record, out: &mut Vec<u8>) {
-    out.extend([record.state, record.reset_protocol]);
-    out.extend(record.reset_quiet_seconds.to_le_bytes());
+    out.extend(record.state.to_le_bytes());
     put_order(&record.order, out);
+    put_order(&record.older, out);
 }
 
 fn put_intake(intake: &Intake, out: &mut Vec<u8>) {
@@ -519,10 +519,9 @@ impl<'a> Bytes<'a> {
 
     pub fn record(&mut self) -> Option<Record> {
         Some(Record {
-            state: self.number(1)? as u8,
-            reset_protocol: self.number(1)? as u8,
-            reset_quiet_seconds: self.number(2)? as u16,
+            state: self.number(4)? as u32,
             order: self.order()?,
+            older: self.order()?,
         })
     }
 }

@@ -129,12 +129,12 @@ pub fn blocks() -> Vec<Vec<u8>> {
     all
 }
 
-/// An order that is pending and that no command makes, and such a reset.
-pub fn odd_record(state: u8, ck_cond: u8, extend: u8) -> Record {
+/// An order that is pending and that no command makes, and another one in the
+/// place of the older order, whose CK_COND and EXTEND count as the opposite.
+pub fn odd_record(state: u32, ck_cond: u8, extend: u8) -> Record {
+    let opposite = |flag| if flag == 0 { 0x55 } else { 0 };
     Record {
         state,
-        reset_protocol: 0xFE,
-        reset_quiet_seconds: 888,
         order: Order {
             length: 0xDEAD_BEEF,
             features: 0x1122,
@@ -150,6 +150,22 @@ pub fn odd_record(state: u8, ck_cond: u8, extend: u8) -> Record {
             ck_cond,
             extend,
             direction: 0xEE,
+        },
+        older: Order {
+            length: 0xFEED_FACE,
+            features: 0x2233,
+            count: 0x4455,
+            lba_low: 0x6677,
+            lba_mid: 0x8899,
+            lba_high: 0xAABB,
+            quiet_seconds: 888,
+            sectors_per_block: 666,
+            device: 0xC1,
+            command: 0xD1,
+            protocol: 0xE1,
+            ck_cond: opposite(ck_cond),
+            extend: opposite(extend),
+            direction: 0xF1,
         },
     }
 }
@@ -186,10 +202,11 @@ pub fn submit(command: &[u8], declared: u32) -> Call {
     Call::new(call::SUBMIT, pieces).declared(declared)
 }
 
-/// That record with an older order of this protocol.
-pub fn record_of(state: u8, protocol: u8) -> Record {
+/// That record with these protocols of the order and of the older one.
+pub fn record_of(state: u32, protocol: u8, older: u8) -> Record {
     let mut record = odd_record(state, 0x80, 9);
     record.order.protocol = protocol;
+    record.older.protocol = older;
     record
 }
 

@@ -31,7 +31,7 @@ pub fn fields(board: &mut Board) {
     for bits in 0..1024_usize {
         let byte_1 = (bits & 0x1F) as u8;
         let byte_2 = (bits >> 5 & 0x0F) as u8;
-        let record = odd_record((bits >> 9) as u8, 1, 1);
+        let record = odd_record((bits >> 9) as u32, 1, 1);
         for long in [false, true] {
             for pair in numbers {
                 let command = command(long, byte_1, byte_2, pair, 0);
@@ -187,7 +187,7 @@ pub fn odd_records(board: &mut Board) {
     let command = command(true, 0x09, 0x2E, (1, 1), 0);
     let reset = self::command(false, 0x02, 0xC0, (1, 1), 0);
     let report = self::command(false, 0x1E, 0x00, (1, 1), 0);
-    for state in [0, 1, 2, 3, 7, 128, 254, 255] {
+    for state in [0, 1, 2, 7, 0x0100, 0x0001_0000, 0x8000_0002, u32::MAX] {
         for ck_cond in [0, 1, 2, 128, 200, 255] {
             for extend in [0, 1, 2, 9, 128, 254, 255] {
                 let record = odd_record(state, ck_cond, extend);

@@ -162,19 +162,21 @@ pub fn submit(numbers: &mut Numbers) -> Call {
 }
 
 /// A record of any bytes; its state is 0 in one of two, and else mostly one
-/// that the board leaves, with an order that a command makes.
+/// that the board leaves, with orders that a command makes.
 pub fn odd_record(call: &mut Call, numbers: &mut Numbers) {
-    call.record = Bytes(&numbers.bytes(28)).record().unwrap_or_default();
-    let order = &mut call.record.order;
-    order.ck_cond = numbers.pick(&[0, 1, order.ck_cond]);
-    order.extend = numbers.pick(&[0, 1, order.extend]);
-    order.protocol = numbers.pick(&[0, 1, order.protocol & 0x0F, order.protocol]);
-    call.record.state = match numbers.below(8) {
+    let mut record = Bytes(&numbers.bytes(52)).record().unwrap_or_default();
+    for order in [&mut record.order, &mut record.older] {
+        order.ck_cond = numbers.pick(&[0, 1, order.ck_cond]);
+        order.extend = numbers.pick(&[0, 1, order.extend]);
+        order.protocol = numbers.pick(&[0, 1, order.protocol & 0x0F, order.protocol]);
+    }
+    record.state = match numbers.below(8) {
         0..=3 => 0,
         4..=5 => 2,
         6 => 1,
-        _ => call.record.state,
+        _ => record.state >> numbers.pick(&[0, 8, 16, 24]),
     };
+    call.record = record;
 }
 
 pub fn complete(numbers: &mut Numbers) -> Call {

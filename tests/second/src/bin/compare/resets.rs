@@ -2,7 +2,7 @@
 
 use crate::board::Board;
 use crate::call::{Call, Said};
-use crate::lent::{self, odd_record, record_of};
+use crate::lent::{self, record_of};
 use crate::numbers::Numbers;
 use crate::orders::command;
 use crate::random;
@@ -87,44 +87,86 @@ pub fn stories(board: &mut Board) {
     }
 }
 
-/// Every protocol submitted in every state, over an older order of every kind.
-pub fn states(board: &mut Board) {
+/// Every state of one byte, and states whose lower bytes are such a state.
+fn state_numbers() -> impl Iterator<Item = u32> {
+    (0..=0xFF).chain([
+        0x0100,
+        0x0102,
+        0x0200,
+        0x0001_0000,
+        0x0001_0002,
+        0x0002_0000,
+        0x0100_0002,
+        0x0200_0000,
+        0x8000_0000,
+        0x8000_0002,
+        0xFFFF_FF02,
+        u32::MAX,
+    ])
+}
+
+/// Protocols of the two orders in a record: all pairs in the states up to 3, and
+/// in others each protocol of the order once.
+fn protocols(state: u32) -> Vec<(u8, u8)> {
     let known: Vec<u8> = (0..=16).chain([0x80, 0x81, 0xFE, 0xFF]).collect();
-    for state in 0..=0xFF {
-        for &older in &known {
+    let count = known.len();
+    let olders = if state > 3 { 1 } else { count };
+    (0..olders * count)
+        .map(|at| (known[at % count], known[(at / count + at * 4 + 3) % count]))
+        .collect()
+}
+
+/// Every protocol submitted in every state, over orders of every kind.
+pub fn states(board: &mut Board) {
+    for state in state_numbers() {
+        for (order, older) in protocols(state) {
             for protocol in 0..16 {
                 let from_drive = u8::from(![5, 11].contains(&protocol)) << 3;
                 let with_data = if [3, 8, 9].contains(&protocol) { 0 } else { 6 };
                 let byte_2 = from_drive | with_data;
-                let long = (state ^ older) & 1 == 0;
+                let long = (order ^ older) & 1 == 0;
                 let command = command(long, protocol << 1, byte_2, (1, 1), 0);
-                let call = lent::submit(&command, u32::MAX).record(record_of(state, older));
-                board.call(&call);
+                let record = record_of(state, order, older);
+                board.call(&lent::submit(&command, u32::MAX).record(record));
             }
         }
     }
 }
 
-/// Every state completed, with an older order of every protocol byte, and with
-/// every CK_COND and EXTEND of it that counts as one and as zero.
+/// Every state completed, with every protocol byte of both orders.
 pub fn completions(board: &mut Board) {
-    for state in 0..=0xFF {
-        for older in 0..=0xFF {
+    for state in state_numbers() {
+        for older in 0..=0xFF_u8 {
             let status = [0x50, 0x51, 0x70][usize::from(older) % 3];
-            board.call(&lent::complete(record_of(state, older), status));
+            let order = older.wrapping_mul(3) ^ 0x05;
+            board.call(&lent::complete(record_of(state, order, older), status));
         }
     }
-    for state in [0, 1, 2, 3, 0xFF] {
-        for older in [0, 1, 4, 15, 0xFF] {
-            for (ck_cond, extend) in [(0, 0), (0, 1), (1, 0), (1, 1), (2, 0x80), (0xFF, 0xFE)] {
-                let mut record = odd_record(state, ck_cond, extend);
-                record.order.protocol = older;
-                for reset in [0, 1, 2, 0xFF] {
-                    record.reset_protocol = reset;
-                    for status in [0x00, 0x50, 0x51, 0x70] {
-                        board.call(&lent::complete(record, status));
-                    }
-                }
+    for state in [0, 1, 2, 3, 0xFF, 0x0102] {
+        for (order, older) in [(0, 4), (1, 0), (1, 15), (4, 1), (0xFF, 3), (2, 0xFF)] {
+            flags(board, record_of(state, order, older));
+        }
+    }
+    for state in [0, 1, 2, 3] {
+        let zeros = Record {
+            state,
+            ..Record::default()
+        };
+        board.call(&lent::complete(zeros, 0x50));
+    }
+}
+
+/// This record completed with each CK_COND and EXTEND of both orders that counts
+/// as one and as zero.
+fn flags(board: &mut Board, given: Record) {
+    let all = [(0, 0), (0, 1), (1, 0), (1, 1), (2, 0x80), (0xFF, 0xFE)];
+    for own in all {
+        for older in all {
+            let mut record = given;
+            (record.order.ck_cond, record.order.extend) = own;
+            (record.older.ck_cond, record.older.extend) = older;
+            for status in [0x00, 0x50, 0x51, 0x70] {
+                board.call(&lent::complete(record, status));
             }
         }
     }
@@ -135,10 +177,10 @@ pub fn completions(board: &mut Board) {
 pub fn fields(board: &mut Board) {
     for byte_2 in 0..=0xFF {
         for byte_1 in (0..=0xFF).filter(|byte_1| byte_1 & 0x1C == 0) {
-            for (state, older) in [(0, 4), (1, 4), (1, 0), (1, 1), (2, 4), (9, 255)] {
+            for (state, order) in [(0, 4), (1, 4), (1, 0), (1, 1), (2, 1), (9, 255)] {
                 let control = if byte_2 % 7 == 0 { 0x04 } else { 0xFB };
                 let command = command(byte_1 & 0x20 == 0, byte_1, byte_2, (0, 0), control);
-                let call = lent::submit(&command, 0).record(record_of(state, older));
+                let call = lent::submit(&command, 0).record(record_of(state, order, 4));
                 board.call(&call);
             }
         }
