@@ -20,7 +20,7 @@ enum { NOTHING, ORDER, RESET, BOTH, PENDING };
 enum { REPORTS, RESETS, ORDERS, COMPLETES, MEETS };
 
 static uint64_t seed = 20;
-static unsigned seen[PIONGSEUT_REFUSED_NOT_A_PAGE], met[PENDING][MEETS], completions[3], host_resets, told[2], lost_protocols[256];
+static unsigned seen[PIONGSEUT_REFUSED_NOT_A_PAGE], met[PENDING][MEETS], completions[PENDING][3], host_resets, told[2], lost_protocols[256];
 
 /* xorshift64: the same run on every machine. */
 static unsigned roll(unsigned below)
@@ -233,8 +233,8 @@ static void hold(const piongseut_order *order)
         return;
     }
     model.state = PIONGSEUT_STATE_RESET_OVER_ORDER;
-    model.reset_protocol = order->protocol;
-    model.reset_quiet_seconds = order->quiet_seconds;
+    model.older = model.order;
+    model.order = *order;
 }
 
 static int same_record(const piongseut_record *record)
@@ -307,10 +307,10 @@ static int completion(piongseut_record *record, const uint8_t *registers)
     uint8_t sense[SENSE], wanted[SENSE], status = PIONGSEUT_GOOD;
     const uint8_t form = draw_form();
     const int found = pending(), over = found == BOTH;
-    /* A reset has neither; those of the order under it say nothing. */
-    const uint8_t extend = !over && model.order.extend, ck_cond = !over && model.order.ck_cond;
+    /* Those of a reset, not of the order under it. */
+    const uint8_t extend = model.order.extend != 0, ck_cond = model.order.ck_cond != 0;
     const uint8_t number = found ? PIONGSEUT_ACCEPTED : PIONGSEUT_REFUSED_NOTHING_PENDING;
-    const uint8_t protocol = over ? model.order.protocol : 0;
+    const uint8_t protocol = over ? model.older.protocol : 0;
     memset(sense, FILL, SENSE);
     memset(wanted, FILL, SENSE);
     const piongseut_complete_answer got = piongseut_complete(record, registers, PIONGSEUT_REGISTERS_SIZE, form, sense, SENSE);
@@ -321,13 +321,13 @@ static int completion(piongseut_record *record, const uint8_t *registers)
     } else if (registers[PIONGSEUT_REGISTER_STATUS] & 0x21) {
         status = PIONGSEUT_CHECK_CONDITION;
         put_registers(wanted, form, 0x0B, 0x00, extend, registers);
-        completions[0]++;
+        completions[found][0]++;
     } else if (ck_cond) {
         status = PIONGSEUT_CHECK_CONDITION;
         put_registers(wanted, form, 0x01, 0x1D, extend, registers);
-        completions[1]++;
+        completions[found][1]++;
     } else {
-        completions[2]++;
+        completions[found][2]++;
     }
     if (over) lost_protocols[protocol]++;
     if (found) memset(&model, 0, sizeof model);
@@ -335,21 +335,39 @@ static int completion(piongseut_record *record, const uint8_t *registers)
            memcmp(sense, wanted, SENSE) == 0 && same_record(record);
 }
 
+/* A number that is one order: 1, any other of a byte or of all four, and such whose lower bytes are 0, 1 or 2. */
+static uint32_t draw_state(void)
+{
+    switch (roll(4)) {
+    case 0: return 3 + roll(253);
+    case 1: return 3 + roll(UINT32_MAX - 2);
+    case 2: return (1 + roll(0xFFFF)) << 16 | roll(3);
+    default: return PIONGSEUT_STATE_ORDER;
+    }
+}
+
+static void draw_flags(piongseut_order *order)
+{
+    if (order->ck_cond) order->ck_cond = (uint8_t)(1 + roll(255));
+    if (order->extend) order->extend = (uint8_t)(1 + roll(255));
+}
+
 /*
- * The host writes other bytes into the record, which mean the same: another number that is one order, what is not looked at while
- * one is pending or none, and CK_COND and EXTEND that are not 1 where they are set.
+ * The host writes other bytes into the record: another number that is one order, what is not looked at while one is pending or none,
+ * CK_COND and EXTEND that are not 1 where they are set, and a reset that has them.
  */
 static void rewrite(piongseut_record *record)
 {
     const int found = pending();
-    if (found == ORDER || found == RESET) model.state = (uint8_t)(roll(2) ? PIONGSEUT_STATE_ORDER : 3 + roll(253));
-    if (found != BOTH) {
-        model.reset_protocol = (uint8_t)roll(256);
-        model.reset_quiet_seconds = (uint16_t)roll(65536);
-    }
+    if (found == ORDER || found == RESET) model.state = draw_state();
+    if (found != BOTH) memset(&model.older, (int)roll(256), sizeof model.older);
     if (found == NOTHING) memset(&model.order, (int)roll(256), sizeof model.order);
-    if (model.order.ck_cond) model.order.ck_cond = (uint8_t)(1 + roll(255));
-    if (model.order.extend) model.order.extend = (uint8_t)(1 + roll(255));
+    if (found == BOTH || found == RESET) {
+        model.order.ck_cond = (uint8_t)roll(2);
+        model.order.extend = (uint8_t)roll(2);
+    }
+    draw_flags(&model.order);
+    draw_flags(&model.older);
     *record = model;
 }
 
@@ -374,7 +392,10 @@ static int shown_all(void)
         const int can_be = protocol < 15 && served(protocol) && !resets_drive(protocol);
         if ((lost_protocols[protocol] != 0) != can_be) return 0;
     }
-    return host_resets && completions[0] && completions[1] && completions[2] && told[0] && told[1];
+    for (int found = ORDER; found < PENDING; found++)
+        for (int end = 0; end < 3; end++)
+            if (completions[found][end] == 0) return 0;
+    return host_resets && told[0] && told[1];
 }
 
 static int step(piongseut_record *record)
@@ -402,7 +423,7 @@ int main(int count, char **words)
     }
     printf("ok %ld steps through one lent record: %u orders (%u ended, %u lost, %u dropped by the host, %u pending), %u busy, %u errors, "
            "%u host resets, %u fixed and %u descriptor sense\n",
-           steps, taken_orders, ended_orders, lost_orders, dropped_orders, orders_in(&record), seen[PIONGSEUT_REFUSED_PENDING], completions[0],
-           host_resets, told[1], told[0]);
+           steps, taken_orders, ended_orders, lost_orders, dropped_orders, orders_in(&record), seen[PIONGSEUT_REFUSED_PENDING],
+           completions[ORDER][0] + completions[RESET][0] + completions[BOTH][0], host_resets, told[1], told[0]);
     return 0;
 }

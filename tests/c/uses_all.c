@@ -206,6 +206,11 @@ static int nothing_lost(piongseut_complete_answer answer)
     return answer.lost == 0 && answer.lost_protocol == 0;
 }
 
+static int same_order(const piongseut_order *one, const piongseut_order *other)
+{
+    return memcmp(one, other, sizeof *one) == 0;
+}
+
 /* C6 is taken; then the record is busy, protocol 15 leaves it, and completion empties it. */
 static void one_order(void)
 {
@@ -220,8 +225,8 @@ static void one_order(void)
               answer.order.direction == PIONGSEUT_DIRECTION_FROM_DRIVE && answer.order.length == 512 &&
               answer.order.command == 0xEC && answer.order.protocol == PIONGSEUT_PROTOCOL_PIO_DATA_IN && answer.order.count == 1,
           "C6: from the drive, 512 bytes");
-    check(record.state == PIONGSEUT_STATE_ORDER && memcmp(&record.order, &answer.order, sizeof answer.order) == 0,
-          "the record holds the order");
+    check(record.state == PIONGSEUT_STATE_ORDER && same_order(&record.order, &answer.order) && same_order(&record.older, &empty.older),
+          "the record holds the order, and no older one");
     piongseut_record before = record;
     answer = submit(&record, command, sizeof command);
     check(answer.number == PIONGSEUT_REFUSED_PENDING && answer.status == PIONGSEUT_BUSY && untouched(sense, sizeof sense),
@@ -266,8 +271,8 @@ static void hung_order(void)
     check(answer.number == PIONGSEUT_ACCEPTED && answer.status == PIONGSEUT_NONE && untouched(sense, sizeof sense) &&
               answer.order.protocol == PIONGSEUT_PROTOCOL_SRST && answer.order.quiet_seconds == 6 && answer.order.command == 0,
           "a reset is taken over a hung IDENTIFY DEVICE");
-    check(record.state == PIONGSEUT_STATE_RESET_OVER_ORDER && record.reset_protocol == PIONGSEUT_PROTOCOL_SRST &&
-              record.reset_quiet_seconds == 6 && memcmp(&record.order, &hung.order, sizeof hung.order) == 0,
+    check(record.state == PIONGSEUT_STATE_RESET_OVER_ORDER && same_order(&record.order, &answer.order) &&
+              same_order(&record.older, &hung.order),
           "the record holds both");
     busy_with_reset(&record, reset, identify);
     const piongseut_complete_answer ended = complete(&record);
@@ -286,11 +291,12 @@ static void single_reset(void)
     static const uint8_t identify[12] = {0xA1, PIONGSEUT_PROTOCOL_PIO_DATA_IN << 1, 0x2E, 0, 1, 0, 0, 0, 0, 0xEC, 0, 0};
     static const uint8_t reset[12] = {0xA1, PIONGSEUT_PROTOCOL_ATA_HARDWARE_RESET << 1, 0x40};
     piongseut_record record = piongseut_record_empty();
+    const piongseut_order none = record.older;
     prepare();
     const piongseut_submit_answer answer = submit(&record, reset, sizeof reset);
-    check(answer.number == PIONGSEUT_ACCEPTED && record.state == PIONGSEUT_STATE_ORDER && record.reset_protocol == 0 &&
-              record.reset_quiet_seconds == 0 && memcmp(&record.order, &answer.order, sizeof answer.order) == 0,
-          "a reset with nothing pending is the record's order");
+    check(answer.number == PIONGSEUT_ACCEPTED && record.state == PIONGSEUT_STATE_ORDER && same_order(&record.order, &answer.order) &&
+              same_order(&record.older, &none),
+          "a reset with nothing pending is the record's order, with none under it");
     busy_with_reset(&record, reset, identify);
     const piongseut_complete_answer ended = complete(&record);
     check(ended_with(ended, PIONGSEUT_ACCEPTED, PIONGSEUT_GOOD) && nothing_lost(ended), "it ends GOOD, and nothing is lost");
@@ -302,14 +308,29 @@ static void other_state(void)
     static const uint8_t reset[12] = {0xA1, PIONGSEUT_PROTOCOL_SRST << 1};
     piongseut_record record;
     memset(&record, 0xFF, sizeof record);
+    memset(&record.older, 0xEE, sizeof record.older);
     const piongseut_record before = record;
     prepare();
     check(submit(&record, reset, sizeof reset).number == PIONGSEUT_ACCEPTED && record.state == PIONGSEUT_STATE_RESET_OVER_ORDER &&
-              memcmp(&record.order, &before.order, sizeof before.order) == 0,
-          "a record of ones holds an order; a reset is taken over it, and its bytes stay");
+              same_order(&record.older, &before.order),
+          "a record of ones holds an order; a reset is taken over it, and its bytes go under the reset");
     const piongseut_complete_answer ended = complete(&record);
     check(ended_with(ended, PIONGSEUT_ACCEPTED, PIONGSEUT_GOOD) && ended.lost == 1 && ended.lost_protocol == 0xFF,
           "the lost order's protocol is told as the record has it");
+}
+
+/* A reset over an order ends with the CK_COND and EXTEND that the record has of it; those of the order under it are not looked at. */
+static void own_flags(void)
+{
+    piongseut_record record = piongseut_record_empty();
+    record.state = PIONGSEUT_STATE_RESET_OVER_ORDER;
+    record.order.ck_cond = 1;
+    prepare();
+    check(complete(&record).status == PIONGSEUT_CHECK_CONDITION && sense[3] == 0x1D, "a reset that asks for registers is told them");
+    record.state = PIONGSEUT_STATE_RESET_OVER_ORDER;
+    record.older.ck_cond = record.older.extend = 1;
+    prepare();
+    check(complete(&record).status == PIONGSEUT_GOOD && untouched(sense, sizeof sense), "what the lost order asked for is not told");
 }
 
 static void c12(void)
@@ -723,6 +744,7 @@ int main(void)
     hung_order();
     single_reset();
     other_state();
+    own_flags();
     c12();
     register_places();
     fixed_refusals();
