@@ -110,9 +110,8 @@ static piongseut_record next_record(void)
 static void say_record(piongseut_record record)
 {
     say("state", record.state);
-    say("reset_protocol", record.reset_protocol);
-    say("reset_quiet_seconds", record.reset_quiet_seconds);
     say_order("held", record.order);
+    say_order("older", record.older);
     say_bytes("record", (const uint8_t *)&record, sizeof record);
 }
 

@@ -189,7 +189,7 @@ def spelt(piece):
 
 
 def unspelt(name, word):
-    if name in ("order", "held"):
+    if name in ("order", "held", "older"):
         return {field: int(value) for field, value in (pair.split(":") for pair in word.split(";"))}
     if name in ("rows", "census"):
         return [] if word == "-" else [int(row) for row in word.split(",")]
@@ -290,21 +290,21 @@ class Trial:
                        {"part of": lambda text: self.want("part of", text, names.get(got["shown"])),
                         **self.bytes_are("shown", part[:count]), **self.sense_is(sense, got)}, always)
 
-    def record_is(self, before, older, got):
-        """The order that was taken, by itself or, if it is a reset, over the one that was there; or bytes as they were."""
-        parts = got["state"], got["reset_protocol"], got["reset_quiet_seconds"], got["held"]
+    def record_is(self, before, pending, got):
+        """The order that was taken, by itself or, if it is a reset, over the one that was pending; or bytes as they were."""
+        parts = got["state"], got["held"], got["older"]
         def compare(text):
             order = got.get("order")
             if text == "the order":
-                self.want("record", (1, 0, 0, order), parts)
+                self.want("record", (1, order, read_order("zeros")), parts)
             elif text == "both":
-                self.want("record", (2, order["protocol"], order["quiet_seconds"], older), parts)
+                self.want("record", (2, order, pending), parts)
             else:
                 self.want("record", {"as it was": before, "empty": self.emptied}[text], got["record"])
         return {"record": compare}
 
     def submit(self):
-        sense, before, older = self.sense(), self.record, self.held
+        sense, before, pending = self.sense(), self.record, self.held
         got = self.board.call("submit", before, self.bytes("command"), self.bytes("registers"), int(self.lent["declared"]), self.form(), sense)
         self.record, self.held = got["record"], got["held"]
         def always(named):
@@ -313,10 +313,10 @@ class Trial:
                 self.want("order of a refusal", read_order("zeros"), got["order"])
                 self.want("record after a refusal", before, got["record"])
         return Outcome(got, {"order": lambda text: self.want("order", read_order(text), got["order"]),
-                             **self.record_is(before, older, got), **self.sense_is(sense, got)}, always)
+                             **self.record_is(before, pending, got), **self.sense_is(sense, got)}, always)
 
     def complete(self):
-        sense, before, older = self.sense(), self.record, self.held
+        sense, before, pending = self.sense(), self.record, self.held
         got = self.board.call("complete", before, self.bytes("registers"), self.form(), sense)
         self.record, self.held = got["record"], got["held"]
         got["lost protocol"] = got.pop("lost_protocol")
@@ -326,7 +326,7 @@ class Trial:
             for name in ("lost", "lost protocol"):
                 if name not in named:
                     self.want(name + ", which is not named", 0, got[name])
-        return Outcome(got, {**self.record_is(before, older, got), **self.sense_is(sense, got)}, always)
+        return Outcome(got, {**self.record_is(before, pending, got), **self.sense_is(sense, got)}, always)
 
     def counted(self, got, before, name):
         """An entry that writes `count` bytes to the front of a room."""
