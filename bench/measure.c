@@ -214,6 +214,8 @@ static void make_copy(const measured *one, const maker *by, left *to)
     else STACK_CALL(bare_copy(to->room, blocks, one->bytes));
 }
 
+enum { ORDER = sizeof(piongseut_order), RECORD = sizeof(piongseut_record) };
+
 static const measured calls[] = {
     {"inquiry, standard data", 140, 36, make_inquiry, 0, {0x12, 0, 0x00, 2, 0x3C}},
     {"inquiry, page 00h", 95, 8, make_inquiry, 0, {0x12, 1, 0x00, 2, 0x3C}},
@@ -227,18 +229,18 @@ static const measured calls[] = {
     {"packet drive, page 00h", 0, 8, make_inquiry, PACKET, {0x12, 1, 0x00, 2, 0x3C}},
     {"packet drive, page 89h", 0, 572, make_inquiry, PACKET, {0x12, 1, 0x89, 2, 0x3C}},
     {"packet drive, own reply", 0, 0, make_inquiry, PACKET, {0x12, 1, 0x83, 2, 0x3C}},
-    {"empty", 0, 28, make_empty, 0, {0}},
-    {"submit, IDENTIFY DEVICE", 130, 24 + 28, make_submit, 0, {0x85, 0x08, 0x2E, 0, 0, 0, 1, 0, 0, 0, 0, 0, 0, 0, 0xEC, 0}},
+    {"empty", 0, RECORD, make_empty, 0, {0}},
+    {"submit, IDENTIFY DEVICE", 130, ORDER + RECORD, make_submit, 0, {0x85, 0x08, 0x2E, 0, 0, 0, 1, 0, 0, 0, 0, 0, 0, 0, 0xEC, 0}},
     {"submit, protocol 15", 0, 22, make_submit, HELD, {0x85, 0x1E}},
-    {"submit, reset", 0, 24 + 28, make_submit, 0, {0x85, 0x02}},
-    {"submit, reset over order", 0, 24 + 28, make_submit, HELD, {0x85, 0x02}},
+    {"submit, reset", 0, ORDER + RECORD, make_submit, 0, {0x85, 0x02}},
+    {"submit, reset over order", 0, ORDER + RECORD, make_submit, HELD, {0x85, 0x02}},
     {"submit, BUSY", 0, 0, make_submit, HELD | OVER, {0x85, 0x02}},
     {"submit, refusal, sense", 0, 8, make_submit, 0, {0x85, 0x04}},
     {"submit, refusal, fixed", 0, 18, make_submit, FIXED, {0x85, 0x04}},
-    {"complete, CK_COND", 110, 28 + 22, make_complete, HELD | CK_COND, {0}},
-    {"complete, CK_COND, fixed", 0, 28 + 18, make_complete, HELD | CK_COND | FIXED, {0}},
-    {"complete, GOOD", 0, 28, make_complete, HELD, {0}},
-    {"complete, order lost", 0, 28, make_complete, HELD | CK_COND | OVER, {0}},
+    {"complete, CK_COND", 110, RECORD + 22, make_complete, HELD | CK_COND, {0}},
+    {"complete, CK_COND, fixed", 0, RECORD + 18, make_complete, HELD | CK_COND | FIXED, {0}},
+    {"complete, GOOD", 0, RECORD, make_complete, HELD, {0}},
+    {"complete, order lost", 0, RECORD, make_complete, HELD | CK_COND | OVER, {0}},
     {"write page 83h, name", 0, 16, make_write, 0, {0}},
     {"read page 83h, name", 0, 60, make_read, 0, {0}},
     {"write page 83h, texts", 0, 76, make_write, TEXTS, {0}},
@@ -262,7 +264,8 @@ static piongseut_record record_for(const measured *one)
     record.order.ck_cond = one->how & CK_COND ? 1 : 0;
     if (one->how & OVER) {
         record.state = PIONGSEUT_STATE_RESET_OVER_ORDER;
-        record.reset_protocol = PIONGSEUT_PROTOCOL_SRST;
+        record.older = record.order;
+        record.order = (piongseut_order){.protocol = PIONGSEUT_PROTOCOL_SRST, .sectors_per_block = 1};
     }
     return record;
 }

@@ -41,10 +41,9 @@ pub struct Order {
 #[repr(C)]
 #[derive(Clone, Copy, Default)]
 pub struct Pending {
-    state: u8,
-    reset_protocol: u8,
-    reset_quiet_seconds: u16,
+    state: u32,
     order: Order,
+    older: Order,
 }
 
 #[repr(C)]
@@ -411,35 +410,29 @@ fn has_place(record: &Pending, protocol: u8) -> bool {
     }
 }
 
-/// A reset over an order leaves that as it is.
+/// What was pending goes under a reset.
 fn hold(record: &mut Pending, order: Order) {
-    if record.state == 0 {
-        *record = Pending { state: 1, reset_protocol: 0, reset_quiet_seconds: 0, order };
-    } else {
-        record.state = 2;
-        record.reset_protocol = order.protocol;
-        record.reset_quiet_seconds = order.quiet_seconds;
-    }
+    *record = match record.state {
+        0 => Pending { state: 1, order, older: Order::default() },
+        _ => Pending { state: 2, order, older: record.order },
+    };
 }
 
-/// The status, and the protocol of the order that is lost. A reset over it has neither CK_COND nor EXTEND.
+/// The status, and the protocol of the order that is lost.
 fn complete(record: &mut Pending, registers: &[u8], form: u8, sense: &mut [u8]) -> Result<(u8, Option<u8>), u8> {
     let registers: &[u8; 11] = registers.try_into().ok().filter(|_| sense.len() >= 22).ok_or(1)?;
     if record.state == 0 {
         return Err(15);
     }
-    let over = record.state == 2;
-    let Order { protocol, ck_cond, extend, .. } = record.order;
-    *record = Pending::default();
-    let extend = !over && extend != 0;
+    let Pending { state, order, older } = std::mem::take(record);
     let status = if registers[10] & 0x21 != 0 {
-        report([0x0B, 0x00, 0x00], extend, registers, form, sense)
-    } else if !over && ck_cond != 0 {
-        report([0x01, 0x00, 0x1D], extend, registers, form, sense)
+        report([0x0B, 0x00, 0x00], order.extend != 0, registers, form, sense)
+    } else if order.ck_cond != 0 {
+        report([0x01, 0x00, 0x1D], order.extend != 0, registers, form, sense)
     } else {
         GOOD
     };
-    Ok((status, over.then(|| protocol)))
+    Ok((status, (state == 2).then(|| older.protocol)))
 }
 
 // ---- The reader of page 83h, and the roll ----
