@@ -62,9 +62,9 @@ extern "C" {
 /*
  * Refusal numbers, each with its status, key, ASC and ASCQ if it has them, and when it is given. A refusal changes nothing that was
  * lent, but for the sense room where there is a key: sense data then stand at its front, in the form that was asked for. They are
- * checked in this order: 1, 17, 18, no command bytes (2), 3, too few command bytes (2), then 4 upward. A block is damaged if it has 512
- * bytes, the low byte of its word 255 (byte 510) is A5h, and its bytes do not sum to 0 modulo 256; where one is lent, nothing of it is
- * used. No function asks the sum that an intake carries: each sums the block itself.
+ * checked in this order: 1, 17, 18, no command bytes (2), 3, too few command bytes (2), 4 to 6, 19, then 7 upward. A block is damaged
+ * if it has 512 bytes, the low byte of its word 255 (byte 510) is A5h, and its bytes do not sum to 0 modulo 256; where one is lent,
+ * nothing of it is used. No function asks the sum that an intake carries: each sums the block itself.
  */
 #define PIONGSEUT_ACCEPTED 0                 /*                no refusal; each function says the status */
 #define PIONGSEUT_REFUSED_SIZE 1             /* none           a lent piece has a wrong size (said at each function) */
@@ -85,10 +85,12 @@ extern "C" {
 #define PIONGSEUT_REFUSED_NOT_A_PAGE 16      /* none           a page 83h that the writer cannot make */
 #define PIONGSEUT_REFUSED_CENSUS 17          /* none           a census that is full, or a grouping of which does not sum to its blocks */
 #define PIONGSEUT_REFUSED_DAMAGED 18         /* none           a lent block is damaged */
+#define PIONGSEUT_REFUSED_PORT 19            /* 02h, 05 24 00  page 83h with a relative target port that is not 1 or 2 */
 
 /* Sizes of what is lent, in bytes; of sense room the least. */
 #define PIONGSEUT_BLOCK_SIZE 512 /* an IDENTIFY block, and the store of an intake */
 #define PIONGSEUT_SIGNATURE_SIZE 20
+#define PIONGSEUT_ADDRESS_SIZE 8 /* the SAS address of a target port */
 #define PIONGSEUT_TEXTS_SIZE 28
 #define PIONGSEUT_REGISTERS_SIZE 11
 #define PIONGSEUT_SENSE_SIZE 22
@@ -116,8 +118,9 @@ extern "C" {
 #define PIONGSEUT_STANDARD_SIZE 36
 #define PIONGSEUT_PAGE00_SIZE 8 /* of a drive that is no packet drive */
 #define PIONGSEUT_PAGE80_SIZE 24
-#define PIONGSEUT_PAGE83_WWN_SIZE 16
-#define PIONGSEUT_PAGE83_TEXT_SIZE 76
+#define PIONGSEUT_PAGE83_WWN_SIZE 16  /* without ports */
+#define PIONGSEUT_PAGE83_TEXT_SIZE 76 /* without ports */
+#define PIONGSEUT_PAGE83_MOST_SIZE 96 /* texts and both ports */
 #define PIONGSEUT_PAGE89_SIZE 572
 
 /* Places of the drive's registers in the bytes that are lent. */
@@ -132,6 +135,22 @@ extern "C" {
 #define PIONGSEUT_REGISTER_LBA_HIGH_LOW 8
 #define PIONGSEUT_REGISTER_DEVICE 9
 #define PIONGSEUT_REGISTER_STATUS 10
+
+/*
+ * The target ports that page 83h tells behind the drive's name, by which a host that reaches the drive on two paths tells them apart.
+ * `chosen` is a sum of PIONGSEUT_PORT_..., and its other bits are not looked at: RELATIVE adds a descriptor of 8 bytes with the port's
+ * number, 1 or 2; SAS one of 12 bytes with its address, PIONGSEUT_ADDRESS_SIZE bytes, which are lent beside the struct. What is not
+ * chosen is not looked at: any number, any size.
+ */
+#define PIONGSEUT_PORT_NONE 0
+#define PIONGSEUT_PORT_RELATIVE 1
+#define PIONGSEUT_PORT_SAS 2
+
+typedef struct {
+    uint16_t chosen;   /* PIONGSEUT_PORT_... */
+    uint16_t relative; /* the number of the relative target port */
+} piongseut_ports;
+PIONGSEUT_HAS_SIZE(piongseut_ports, 4)
 
 /* ---- INQUIRY ---- */
 
@@ -152,17 +171,21 @@ PIONGSEUT_HAS_SIZE(piongseut_inquiry_answer, 16)
  *
  * Lent to read: the command bytes (any number; bytes past the sixth are ignored); the IDENTIFY block, 512 bytes, or 0 where the
  * drive gave none; the drive's signature, 20 bytes (bytes 5 and 6 are 14h EBh for a packet drive); the translator's texts,
- * 28 bytes: vendor (8), product (16), revision (4), for page 89h; and for a packet drive its own reply to this command, of any
- * size. `form` is that of the sense data (PIONGSEUT_SENSE_...). Lent to write: the output room, and sense room of at least 22 bytes.
+ * 28 bytes: vendor (8), product (16), revision (4), for page 89h; for a packet drive its own reply to this command, of any
+ * size; and the SAS address of the target port, 8 bytes, where `ports` chooses it. `ports` says which ports page 83h tells, `form` is
+ * that of the sense data (PIONGSEUT_SENSE_...). Lent to write: the output room, and sense room of at least 22 bytes.
  * Back: what is shown, and how many bytes of it. No more than the allocation length are shown, and room past them is untouched.
- * Refusals: 1 (a block that is neither 512 nor 0 bytes, a signature not of 20, texts not of 28, sense room below 22), 18 (a damaged
- * block, whatever is asked), 2, 3, 4, 5, 6, 7, 8. 4 to 6 are not given for packet drives.
+ * Refusals: 1 (a block that is neither 512 nor 0 bytes, a signature not of 20, texts not of 28, a chosen address not of 8, sense room
+ * below 22, whatever is asked), 18 (a damaged block, whatever is asked), 2, 3, 4, 5, 6, 19 (page 83h is asked, and the chosen relative
+ * port is not 1 or 2), 7, 8. 4 to 6 and 19 are not given for packet drives.
  */
 piongseut_inquiry_answer piongseut_inquiry(const uint8_t *command, size_t command_size,
                                            const uint8_t *block, size_t block_size,
                                            const uint8_t *signature, size_t signature_size,
                                            const uint8_t *texts, size_t texts_size,
                                            const uint8_t *reply, size_t reply_size,
+                                           piongseut_ports ports,
+                                           const uint8_t *address, size_t address_size,
                                            uint8_t form,
                                            uint8_t *room, size_t room_size,
                                            uint8_t *sense, size_t sense_size);
@@ -292,22 +315,32 @@ piongseut_complete_answer piongseut_complete(piongseut_record *record,
 
 typedef struct {
     uint8_t number;
-    size_t count; /* bytes written: 16 for a world wide name, 76 for model and serial number */
+    size_t count; /* bytes written: 16 for a world wide name, 76 for model and serial number, and 8, 12 or 20 more with ports */
 } piongseut_write_page83_answer;
 PIONGSEUT_HAS_SIZE(piongseut_write_page83_answer, 16)
 
-/* Writes the page 83h of an IDENTIFY block. Refusals: 1 (a block not of 512 bytes), 18, 8. */
+/*
+ * Writes the page 83h of an IDENTIFY block, with the ports that are chosen behind the drive's name.
+ * Refusals: 1 (a block not of 512 bytes, a chosen address not of 8), 18, 19 (a chosen relative port that is not 1 or 2), 8.
+ */
 piongseut_write_page83_answer piongseut_write_page83(const uint8_t *block, size_t block_size,
+                                                     piongseut_ports ports,
+                                                     const uint8_t *address, size_t address_size,
                                                      uint8_t *room, size_t room_size);
 
 typedef struct {
     uint8_t number;
     uint8_t form;                      /* PIONGSEUT_FORM_... */
     uint8_t name[PIONGSEUT_NAME_SIZE]; /* the name's bytes, a serial number behind its model, and zeros behind them */
+    piongseut_ports ports;             /* the ports that stood behind it; relative 0 where none did */
+    uint8_t address[PIONGSEUT_ADDRESS_SIZE]; /* of the SAS target port; zeros where none stood there */
 } piongseut_read_page83_answer;
-PIONGSEUT_HAS_SIZE(piongseut_read_page83_answer, 62)
+PIONGSEUT_HAS_SIZE(piongseut_read_page83_answer, 74)
 
-/* Reads one complete page 83h, and nothing after it. Refusal 16 for every page that the writer cannot make. */
+/*
+ * Reads one complete page 83h, and nothing after it: the name, and the ports that went in. Refusal 16, and all else zero, for every
+ * page that the writer cannot make.
+ */
 piongseut_read_page83_answer piongseut_read_page83(const uint8_t *page, size_t page_size);
 
 /* ---- The roll ---- */
