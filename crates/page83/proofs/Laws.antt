@@ -1,30 +1,32 @@
--- Laws of page 83h: its two forms and their lengths.
-use mathlib.Core.Path.{_≡_, refl, _∙_}
-use mathlib.Core.Bool.{Bool, true, false, cond}
-use mathlib.Core.List.{List, _++_}
-use Prim.Native.Nat.{ℕ, _≤_, _<_}
+-- Laws of page 83h: the forms of its first descriptor, the ports' part, and their lengths.
+use mathlib.Core.Path.{_≡_, refl, sym, ap, _∙_}
+use mathlib.Core.Bool.{Bool, true, false, cond, not}
+use mathlib.Core.List.{List, [], _++_}
+use Prim.Native.Nat.{ℕ, _+_, _≤_}
 use native.Mathlib.Omega.{arith}
+use lib.Dec.{eqb}
 use lib.ListN.{length, length-append}
-use borrow.Author.Tests.{eq-eqb, lt-ltb, le-ltb}
-use Rattle.room.specs.Room.{written}
-use Rattle.checksum.specs.Checksum.{damaged}
+use borrow.Author.Tests.{eqb-true, not-false}
 use Rattle.identify.specs.Block.{serial, model, name}
 use Rattle.texts.specs.Text.{turned, spaced}
 use Rattle.identify.specs.Drive.{carriesName}
 use Rattle.identify.proofs.Block.{length-serial, length-model, length-name}
 use Rattle.texts.proofs.Text.{length-turned, length-spaced}
-use Rattle.page83.specs.Page83.{page83, namePage, textPage, ata, refusalOf, outcome, write}
+use Rattle.page83.specs.declared.Ports.{Ports}
+use Rattle.page83.specs.Ports.{relativeChosen, sasChosen, relativePort, sasPort, relativePart, sasPart, portsPart, wrongAddress}
+use Rattle.page83.specs.Page83.{page83, head, nameDescriptor, textDescriptor, driveDescriptor, ata}
+use Rattle.page83.specs.Helpers.{portsSize, driveEnd}
 
 module _ (block : List ℕ) where
-  pub named-page : carriesName block ≡ true → page83 block ≡ namePage (turned (name block))
-  unfolding page83
-  named-page h = rw h
+  pub named-drive : carriesName block ≡ true → driveDescriptor block ≡ nameDescriptor (turned (name block))
+  unfolding driveDescriptor
+  named-drive h = rw h
 
-  pub unnamed-page : carriesName block ≡ false → page83 block ≡ textPage (spaced (turned (model block))) (spaced (turned (serial block)))
-  unfolding page83
-  unnamed-page h = rw h
+  pub unnamed-drive : carriesName block ≡ false → driveDescriptor block ≡ textDescriptor (spaced (turned (model block))) (spaced (turned (serial block)))
+  unfolding driveDescriptor
+  unnamed-drive h = rw h
 
--- The page's size: 16 or 76 bytes.
+-- The size of the first descriptor: 12 or 72 bytes.
 module _ (block : List ℕ) (h : length block ≡ 512) where
   pub length-model-text : length (spaced (turned (model block))) ≡ 40
   length-model-text = length-spaced (turned (model block)) ∙ length-turned (model block) ∙ length-model block h
@@ -32,28 +34,57 @@ module _ (block : List ℕ) (h : length block ≡ 512) where
   pub length-serial-text : length (spaced (turned (serial block))) ≡ 20
   length-serial-text = length-spaced (turned (serial block)) ∙ length-turned (serial block) ∙ length-serial block h
 
-  pub length-named : carriesName block ≡ true → length (page83 block) ≡ 16
-  length-named e = rw (named-page block e) (omega (arith, length-turned (name block), length-name block h))
+  pub length-named : carriesName block ≡ true → length (driveDescriptor block) ≡ 12
+  length-named e = rw (named-drive block e) (omega (arith, length-turned (name block), length-name block h))
 
-  pub length-unnamed : carriesName block ≡ false → length (page83 block) ≡ 76
+  pub length-unnamed : carriesName block ≡ false → length (driveDescriptor block) ≡ 72
   length-unnamed e =
       let m = spaced (turned (model block)) in
       let s = spaced (turned (serial block)) in
-      rw (unnamed-page block e) (omega (arith, length-append (ata ++ m) s, length-append ata m, length-model-text, length-serial-text))
+      rw (unnamed-drive block e) (omega (arith, length-append (ata ++ m) s, length-append ata m, length-model-text, length-serial-text))
 
-pub page-sizes : (block : List ℕ) → length block ≡ 512 → length (page83 block) ≡ cond (carriesName block) 16 76
-page-sizes block h = by (carriesName block) refl
-  where
-    by : (b : Bool) → carriesName block ≡ b → length (page83 block) ≡ cond b 16 76
-    by true e = length-named block h e
-    by false e = length-unnamed block h e
+  pub length-drive : 4 + length (driveDescriptor block) ≡ driveEnd (carriesName block)
+  length-drive = by (carriesName block) refl
+    where
+      by : (b : Bool) → carriesName block ≡ b → 4 + length (driveDescriptor block) ≡ driveEnd b
+      by true e = omega (arith, length-named e)
+      by false e = omega (arith, length-unnamed e)
 
--- The writer of a block that is not damaged, by how much room there is for a page of n bytes.
-module _ (block room : List ℕ) (h : length block ≡ 512) (d : damaged block ≡ false) {n : ℕ} (l : length (page83 block) ≡ n) where
-  pub too-little : length room < n → write block room ≡ outcome (record { number = 8; count = 0 }) room
-  unfolding refusalOf write
-  too-little s = rw (eq-eqb _ _ h, d, l, lt-ltb _ _ s)
+-- The size of the ports' part, where a chosen address has its 8 bytes.
+module _ (ports : Ports) (address : List ℕ) where
+  pub right-address : wrongAddress ports address ≡ false → sasChosen ports ≡ true → length address ≡ 8
+  unfolding wrongAddress
+  right-address h c = eqb-true _ _ (not-false _ (rw c at h))
 
-  pub enough : n ≤ length room → write block room ≡ outcome (record { number = 0; count = n }) (written room 0 (page83 block))
-  unfolding refusalOf write
-  enough s = rw (eq-eqb _ _ h, d, l, le-ltb _ _ s)
+  pub length-relative : length (relativePart ports) ≡ cond (relativeChosen ports) 8 0
+  unfolding relativePart
+  length-relative = by (relativeChosen ports)
+    where
+      by : (b : Bool) → length (cond b (relativePort (ports .relative)) []) ≡ cond b 8 0
+      by true = refl
+      by false = refl
+
+  pub length-sas : wrongAddress ports address ≡ false → length (sasPart ports address) ≡ cond (sasChosen ports) 12 0
+  unfolding sasPart
+  length-sas h = by (sasChosen ports) refl
+    where
+      by : (b : Bool) → sasChosen ports ≡ b → length (cond b (sasPort address) []) ≡ cond b 12 0
+      by true c = omega (arith, right-address h c)
+      by false c = refl
+
+  pub length-ports : wrongAddress ports address ≡ false → length (portsPart ports address) ≡ portsSize ports
+  unfolding portsSize
+  length-ports h = length-append (relativePart ports) (sasPart ports address) ∙ rw (length-relative, length-sas h)
+
+-- The page's size, and the page by that of its parts.
+module _ (block : List ℕ) (ports : Ports) (address : List ℕ) (h : length block ≡ 512) (g : wrongAddress ports address ≡ false) where
+  pub page-size : length (page83 block ports address) ≡ driveEnd (carriesName block) + portsSize ports
+  unfolding page83
+  page-size = omega (arith, length-append (driveDescriptor block) (portsPart ports address), length-drive block h, length-ports ports address g)
+
+  pub page-is : page83 block ports address ≡ head (length (driveDescriptor block) + portsSize ports) ++ driveDescriptor block ++ portsPart ports address
+  unfolding page83
+  page-is =
+      let l : length (driveDescriptor block ++ portsPart ports address) ≡ length (driveDescriptor block) + portsSize ports =
+      length-append (driveDescriptor block) (portsPart ports address) ∙ ap (λ (n : ℕ). length (driveDescriptor block) + n) (length-ports ports address g) in
+      ap (λ (n : ℕ). head n ++ driveDescriptor block ++ portsPart ports address) l

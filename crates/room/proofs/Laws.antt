@@ -1,13 +1,14 @@
 -- Laws of writing into lent room: what a write leaves untouched, two writes side by side, a loop that writes, a cut.
 use mathlib.Core.Path.{_≡_, refl, sym, ap, _∙_}
 use mathlib.Core.Logic.{⊎-elim}
-use mathlib.Core.List.{List, [], _∷_, _++_, append-nil}
-use Prim.Native.Nat.{ℕ, zero, suc, _+_, _-_, _≤_, _<_}
+use mathlib.Core.List.{List, [], _∷_, _++_, append-nil, append-assoc}
+use Prim.Native.Nat.{ℕ, zero, suc, _+_, _-_, _≤_, _<_, min}
 use native.Mathlib.Nat.{eq-zero-or-pos, sub-zero, zero-add, zero-sub, suc-sub-suc, suc-add}
 use native.Mathlib.Numerals.{add-one}
 use native.Mathlib.Omega.{arith}
-use lib.ListN.{length, getD, set, take, drop, drop-of-length-le}
-use lib.Seq.{set-out, drop-cons, drop-nil, length-sets, length-take-le, take-all, take-append-seam}
+use lib.ListN.{length, getD, set, take, drop, drop-of-length-le, length-drop}
+use lib.Seq.{set-out, drop-cons, drop-nil, drop-drop, length-sets, length-take-le, take-all, take-append-seam}
+use borrow.Rule.Slice.PartMut.{putMid}
 use Rattle.room.specs.Room.{written, Wrote}
 use Rattle.room.specs.Helpers.{fitting}
 
@@ -65,6 +66,29 @@ pub cut : (n : ℕ) (page r : List ℕ) {o : List ℕ} → Wrote (take n r) 0 pa
 cut n page r w hp hr =
     let l : length (take n r) ≡ n = length-take-le n r hr in
     rw (w .leaves, written-front (take n r) page, l, drop-of-length-le (take n r) {i = length page} (omega arith), append-nil)
+
+-- The room from a place on, lent to a writer, where it begins there, and else none of it: what was written stands in the room from
+-- that place on.
+pub mid-page : {r s o : List ℕ} (at k : ℕ) → k ≡ min at (length r) → Wrote (take (length r - k) (drop k r)) 0 s o → Wrote r at s (putMid k (length r - k) r o)
+mid-page {r} {s} {o} at k e w =
+    record {
+      leaves =
+          ap (λ (l : List ℕ). take k r ++ l) (ap (λ (l : List ℕ). o ++ l) (drop-of-length-le (drop k r) {i = length r - k} (omega (arith, length-drop k r))) ∙ append-nil o ∙ lent)
+          ∙ ⊎-elim inside outside (eq-zero-or-pos (at - length r));
+    }
+  where
+    lent : o ≡ written (drop k r) 0 s
+    lent = w .leaves ∙ ap (λ (l : List ℕ). written l 0 s) (take-all (length r - k) (drop k r) (omega (arith, length-drop k r)))
+
+    inside : at - length r ≡ 0 → take k r ++ written (drop k r) 0 s ≡ written r at s
+    inside z =
+        let here : k ≡ at = omega (arith, z, e) in
+        rw (here, written-front (drop at r) s, length-drop at r, drop-drop (length s) at r, written-is r at s) (sym (append-assoc (take at r) (take (length r - at) s) (drop (at + length s) r)))
+
+    outside : 0 < at - length r → take k r ++ written (drop k r) 0 s ≡ written r at s
+    outside z =
+        let here : k ≡ length r = omega (arith, z, e) in
+        rw (here, drop-of-length-le r {i = length r} (omega arith), written-out [] 0 s (omega arith), append-nil, written-out r at s (omega arith)) (take-all (length r) r (omega arith))
 
 -- A loop that writes s, before its turn at byte i: what is left to write takes the room to where it is to be.
 pub record Writing (r : List ℕ) (at : ℕ) (s : List ℕ) (o : List ℕ) (i : ℕ) : Type 0 where

@@ -2,7 +2,9 @@
 use mathlib.Core.Path.{refl}
 use native.Mathlib.Omega.{arith}
 use Rattle.room.proofs.Laws.{beside}
+use Rattle.identify.specs.Block.{model}
 use Rattle.identify.proofs.Block.{length-serial, length-model}
+use Rattle.texts.specs.Text.{turned, spaced}
 use Rattle.page83.proofs.Laws.{length-model-text}
 use borrow.Author.Needs.{needs}
 use Rattle.page83.proofs.put_texts.Statement.{statement}
@@ -23,12 +25,18 @@ slice-aggregate-put-short c = search needs
 put-short-requires : tie.Need-put-short-requires
 put-short-requires c κs = search needs
 
+slice-aggregate-put-short-2 : tie.Need-slice-aggregate-put-short-2
+slice-aggregate-put-short-2 c = search needs
+
+put-short-requires-2 : tie.Need-put-short-requires-2
+put-short-requires-2 c κs = search needs
+
 model-requires : tie.Need-model-requires
 model-requires c κs = search needs
 
 put-spaced-requires : tie.Need-put-spaced-requires
 put-spaced-requires c κs =
-    let a = c .before .before .before .before .before .before .before .before .before .before in
+    let a = c .before .before .before .before .before .before .before .before .before .before .before .before .before .before .before in
     rw (c .model .ensures, length-model (a .args .block .now) (a .pre)) (omega arith)
 
 serial-requires : tie.Need-serial-requires
@@ -36,7 +44,7 @@ serial-requires c κs = search needs
 
 put-spaced-requires-2 : tie.Need-put-spaced-requires-2
 put-spaced-requires-2 c κs =
-    let a = c .before .before .before .before .before .before .before .before .before .before .before .before .before .before .before in
+    let a = c .before .before .before .before .before .before .before .before .before .before .before .before .before .before .before .before .before .before .before .before in
     rw (c .serial .ensures, length-serial (a .args .block .now) (a .pre)) (omega arith)
 
 same-length-2 : tie.Need-same-length-2
@@ -44,12 +52,10 @@ same-length-2 c = search needs
 
 returns-2 : tie.Need-returns-2
 returns-2 c =
-    let s = c .before .before .before in
-    let p = c .before .before .before .before .before .before .before in
-    let h = c .before .before .before .before .before .before .before .before .before .before .before .before in
-    let a = c .before .before .before .before .before .before .before .before .before .before .before .before .before .before .before .before .before .before in
-    beside (beside (h .put-short .ensures) (rw (p .before .model .ensures) at (p .put-spaced .ensures)) refl)
-    (rw (s .serial .ensures) at (c .before .before .put-spaced2 .ensures)) (omega (arith, length-model-text (a .args .block .now) (a .pre)))
+    let a = c .before .before .before .before .before .before .before .before .before .before .before .before .before .before .before .before .before .before .before .before .before .before .before in
+    let vendor = beside (c .before .before .before .before .before .before .before .before .before .before .before .before .before .before .before .before .before .put-short .ensures) (c .before .before .before .before .before .before .before .before .before .before .before .before .put-short2 .ensures) refl in
+    beside (beside {t = spaced (turned (model (a .args .block .now)))} vendor (rw (c .before .before .before .before .before .before .before .before .model .ensures) at (c .before .before .before .before .before .before .before .put-spaced .ensures)) refl)
+    (rw (c .before .before .before .serial .ensures) at (c .before .before .put-spaced2 .ensures)) (omega (arith, length-model-text (a .args .block .now) (a .pre)))
 
 pub put-texts-spec : {M : Type 1} → statement M
 put-texts-spec =
@@ -60,6 +66,8 @@ put-texts-spec =
     returns
     slice-aggregate-put-short
     put-short-requires
+    slice-aggregate-put-short-2
+    put-short-requires-2
     model-requires
     put-spaced-requires
     serial-requires

@@ -1,4 +1,4 @@
--- `store_texts`: the head, the model beside it, and the serial number beside that.
+-- `store_texts`: head, vendor, model and serial number, each beside the one before.
 use mathlib.Core.Path.{refl}
 use native.Mathlib.Omega.{arith}
 use Rattle.room.proofs.Laws.{beside}
@@ -9,6 +9,9 @@ use Rattle.page83.proofs.Laws.{length-model-text}
 use borrow.Author.Needs.{needs}
 use Rattle.page83.proofs.store_texts.Statement.{statement}
 use Rattle.page83.proofs.store_texts.Tie as tie
+
+store-four-requires : tie.Need-store-four-requires
+store-four-requires c κs = search needs
 
 slice-aggregate-store : tie.Need-slice-aggregate-store
 slice-aggregate-store c = search needs
@@ -21,7 +24,7 @@ model-requires c κs = search needs
 
 store-spaced-requires : tie.Need-store-spaced-requires
 store-spaced-requires c κs =
-    let a = c .before .before .before .before .before .before .before .before .before in
+    let a = c .before .before .before .before .before .before .before .before .before .before .before .before .before in
     rw (c .model .ensures, length-model (a .args .block .now) (a .pre .0)) (omega arith, omega arith)
 
 serial-requires : tie.Need-serial-requires
@@ -29,7 +32,7 @@ serial-requires c κs = search needs
 
 store-spaced-requires-2 : tie.Need-store-spaced-requires-2
 store-spaced-requires-2 c κs =
-    let a = c .before .before .before .before .before .before .before .before .before .before .before .before .before .before in
+    let a = c .before .before .before .before .before .before .before .before .before .before .before .before .before .before .before .before .before .before in
     rw (c .serial .ensures, length-serial (a .args .block .now) (a .pre .0)) (omega arith, omega arith)
 
 same-length : tie.Need-same-length
@@ -37,17 +40,16 @@ same-length c = search needs
 
 returns : tie.Need-returns
 returns c =
-    let s = c .before .before .before in
-    let p = c .before .before .before .before .before .before .before in
-    let h = c .before .before .before .before .before .before .before .before .before .before .before .before in
-    let a = c .before .before .before .before .before .before .before .before .before .before .before .before .before .before .before .before .before in
-    beside (beside {t = spaced (turned (model (a .args .block .now)))} (h .store .ensures) (rw (p .before .model .ensures) at (p .store-spaced .ensures)) refl)
-    (rw (s .serial .ensures) at (c .before .before .store-spaced2 .ensures)) (omega (arith, length-model-text (a .args .block .now) (a .pre .0)))
+    let a = c .before .before .before .before .before .before .before .before .before .before .before .before .before .before .before .before .before .before .before .before .before in
+    let vendor = beside (c .before .before .before .before .before .before .before .before .before .before .before .before .before .before .before .before .before .store-four .ensures) (c .before .before .before .before .before .before .before .before .before .before .before .before .store .ensures) refl in
+    beside (beside {t = spaced (turned (model (a .args .block .now)))} vendor (rw (c .before .before .before .before .before .before .before .before .model .ensures) at (c .before .before .before .before .before .before .before .store-spaced .ensures)) refl)
+    (rw (c .before .before .before .serial .ensures) at (c .before .before .store-spaced2 .ensures)) (omega (arith, length-model-text (a .args .block .now) (a .pre .0)))
 
 pub store-texts-spec : {M : Type 1} → statement M
 store-texts-spec =
     tie.close
     (tie.spec
+    store-four-requires
     slice-aggregate-store
     store-requires
     model-requires

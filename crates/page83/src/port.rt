@@ -1,0 +1,119 @@
+// The target ports that a page 83h tells: which are chosen, and their descriptors, each put into the room behind the one before. The
+// rules stand in specs/Ports.
+use crate::Ports;
+ghost use mathlib.Core.Path.{_≡_};
+ghost use mathlib.Core.Bool.{Bool, false, cond};
+ghost use mathlib.Core.List.{List};
+ghost use Prim.Native.Nat.{ℕ, _≤_};
+ghost use lib.ListN.{length};
+ghost use Rattle.room.specs.Room.{Wrote};
+ghost use Rattle.page83.specs.Ports.{relativeChosen, sasChosen, isPort, relativePart, sasPart, portsPart, wrongAddress, wrongPort};
+ghost use Rattle.page83.specs.Helpers.{portsSize};
+
+// What the descriptor of a relative target port starts with: PROTOCOL IDENTIFIER SAS and CODE SET binary; PIV, ASSOCIATION target
+// port and DESIGNATOR TYPE relative target port; DESIGNATOR LENGTH; two reserved bytes.
+pub const RELATIVE_HEAD: [u8; 6] = [0x61, 0x94, 0x00, 0x04, 0x00, 0x00];
+
+// What that of a SAS target port starts with: the same, but for DESIGNATOR TYPE NAA and its length.
+pub const SAS_HEAD: [u8; 4] = [0x61, 0x93, 0x00, 0x08];
+
+// Whether the relative target port is chosen.
+fn relative_chosen(ports: Ports) -> bool
+    ensures { λ r. ⌜ r ≡ relativeChosen ports ⌝ }
+{
+    ports.chosen % 2 == 1
+}
+
+// Whether the SAS target port is chosen.
+fn sas_chosen(ports: Ports) -> bool
+    ensures { λ r. ⌜ r ≡ sasChosen ports ⌝ }
+{
+    ports.chosen / 2 % 2 == 1
+}
+
+// 1: a chosen address that is not of 8 bytes.
+pub fn wrong_address(ports: Ports, address: &[u8]) -> bool
+    ensures { λ r. ⌜ r ≡ wrongAddress ports (now (address .entry)) ⌝ }
+{
+    if sas_chosen(ports) {
+        return address.len() != 8;
+    }
+    false
+}
+
+// Whether a number is one that a relative target port has.
+pub fn is_port(number: u16) -> bool
+    ensures { λ r. ⌜ r ≡ isPort number ⌝ }
+{
+    (number == 1) | (number == 2)
+}
+
+// 19: a chosen relative target port that is not 1 or 2.
+pub fn wrong_port(ports: Ports) -> bool
+    ensures { λ r. ⌜ r ≡ wrongPort ports ⌝ }
+{
+    if relative_chosen(ports) {
+        return !is_port(ports.relative);
+    }
+    false
+}
+
+// The bytes of the descriptors that are chosen.
+pub fn size(ports: Ports) -> u8
+    ensures value { λ r. ⌜ r ≡ portsSize ports ⌝ }
+    ensures most { λ r. ⌜ r ≤ 20 ⌝ }
+{
+    if relative_chosen(ports) {
+        if sas_chosen(ports) {
+            return 20;
+        }
+        return 8;
+    }
+    if sas_chosen(ports) {
+        return 12;
+    }
+    0
+}
+
+// The relative target port, where it is chosen; where its descriptor ends comes back.
+fn put_relative(room: &mut [u8], ports: Ports) -> usize
+    ensures end { λ r. ⌜ r ≡ length (relativePart ports) ⌝ }
+    ensures room { λ _. ⌜ Wrote (now (room .entry)) 0 (relativePart ports) (now (room .exit)) ⌝ }
+{
+    if relative_chosen(ports) {
+        let bytes = [
+            0x61u8,
+            0x94u8,
+            0x00u8,
+            0x04u8,
+            0x00u8,
+            0x00u8,
+            (ports.relative / 256) as u8,
+            (ports.relative % 256) as u8,
+        ];
+        room::put_short(room, 0, &bytes);
+        return 8;
+    }
+    0
+}
+
+// The SAS target port, where it is chosen.
+fn put_sas(room: &mut [u8], ports: Ports, address: &[u8])
+    requires { ⌜ wrongAddress ports (now address) ≡ false ⌝ }
+    ensures { λ _. ⌜ Wrote (now (room .entry)) 0 (sasPart ports (now (address .entry))) (now (room .exit)) ⌝ }
+{
+    if sas_chosen(ports) {
+        room::put_short(room, 0, &SAS_HEAD);
+        room::put_short(room, 4, address);
+    }
+}
+
+// Writes the descriptors that are chosen, as much of them as fits: the SAS one into the room that is left behind the relative one.
+pub fn put(room: &mut [u8], ports: Ports, address: &[u8])
+    requires { ⌜ wrongAddress ports (now address) ≡ false ⌝ }
+    ensures { λ _. ⌜ Wrote (now (room .entry)) 0 (portsPart ports (now (address .entry))) (now (room .exit)) ⌝ }
+{
+    let end = put_relative(room, ports);
+    let behind = rules::lesser(end, room.len());
+    put_sas(&mut room[behind..], ports, address);
+}
