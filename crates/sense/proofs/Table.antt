@@ -7,8 +7,7 @@ use Prim.Native.Nat.{ℕ, zero, suc, _-_, _≤_, _<_}
 use native.Mathlib.Nat.{eq-zero-or-pos, not-suc-le-zero, le-of-suc-le-suc}
 use native.Mathlib.Omega.{arith}
 use lib.Dec.{eqb}
-use lib.ListN.{length, getD, take, List·getD-map, List·getD-eq-default}
-use lib.Seq.{getD-take}
+use lib.ListN.{length, getD, List·getD-map, List·getD-eq-default}
 use borrow.Author.Tests.{eqb-true, eq-eqb, ne-eqb}
 use Rattle.room.specs.Room.{written}
 use Rattle.sense.specs.Refusal.{table, noRow, rowOf, threeBytes, codes, refusedSense, noStatus, busy, checkCondition}
@@ -20,20 +19,15 @@ inside [] n a b h = absurd (not-suc-le-zero h)
 inside (x ∷ l) zero a b h = refl
 inside (x ∷ l) (suc n) a b h = inside l n a b (le-of-suc-le-suc h)
 
--- The code's array is the last three columns of the table's first 17 rows.
-pub code-within : (n : ℕ) → n < 17 → getD (take 17 codes) n [] ≡ threeBytes (rowOf n)
+-- The code's array is the last three columns of the table.
+pub code-within : (n : ℕ) → n < 20 → getD codes n [] ≡ threeBytes (rowOf n)
 unfolding rowOf
-code-within n h =
-    getD-take 17 codes n [] h ∙ inside codes n [] (threeBytes noRow) (omega (arith, h)) ∙ List·getD-map threeBytes table n noRow
+code-within n h = inside codes n [] (threeBytes noRow) (omega (arith, h)) ∙ List·getD-map threeBytes table n noRow
 
--- The others are as if there were none.
-pub row-past : (n : ℕ) → 17 ≤ n → rowOf n ≡ noRow
+-- Past it there is no row.
+pub row-past : (n : ℕ) → 20 ≤ n → rowOf n ≡ noRow
 unfolding rowOf
-row-past n h =
-    ⊎-elim
-    (λ z. List·getD-eq-default table noRow {n = n} (omega arith))
-    (λ z. ⊎-elim (λ y. ap rowOf {x = n} {y = 18} (omega arith)) (λ y. ap rowOf {x = n} {y = 17} (omega arith)) (eq-zero-or-pos (18 - n)))
-    (eq-zero-or-pos (19 - n))
+row-past n h = List·getD-eq-default table noRow {n = n} h
 
 -- A test that passes at every number below n.
 all-below : (ℕ → Bool) → ℕ → Bool
@@ -56,8 +50,8 @@ unfolding rowOf all-below
 status-is n =
     ⊎-elim
     (λ z. rw (row-past n (omega arith), ne-eqb n 10 (λ e. omega arith)))
-    (λ z. eqb-true _ _ (at (λ k. eqb (rowOf k .status) (statusBy k (rowOf k .key))) 17 refl n (omega arith)))
-    (eq-zero-or-pos (17 - n))
+    (λ z. eqb-true _ _ (at (λ k. eqb (rowOf k .status) (statusBy k (rowOf k .key))) 20 refl n (omega arith)))
+    (eq-zero-or-pos (20 - n))
 
 -- What a refusal answers, by its key.
 module _ (n : ℕ) where

@@ -28,9 +28,8 @@ pub const FIXED: u8 = 1;
 
 pub const DESCRIPTOR: u8 = 2;
 
-// Key, ASC and ASCQ of each refusal, by its number; key 0 where a refusal has none, as all have from 15 on, so that the numbers
-// above 16 need no bytes here.
-const TABLE: [[u8; 3]; 17] = [
+// Key, ASC and ASCQ of each refusal, by its number; key 0 where a refusal has none.
+const TABLE: [[u8; 3]; 20] = [
     [0x00, 0x00, 0x00],
     [0x00, 0x00, 0x00],
     [0x05, 0x24, 0x00],
@@ -48,6 +47,9 @@ const TABLE: [[u8; 3]; 17] = [
     [0x05, 0x24, 0x00],
     [0x00, 0x00, 0x00],
     [0x00, 0x00, 0x00],
+    [0x00, 0x00, 0x00],
+    [0x00, 0x00, 0x00],
+    [0x05, 0x24, 0x00],
 ];
 
 // Whether a form is the fixed one.
@@ -82,7 +84,7 @@ fn put_code(sense: &mut [u8], form: u8, key: u8, asc: u8, ascq: u8)
 fn code(number: u8) -> [u8; 3]
     ensures { λ r. ⌜ r ≡ threeBytes (rowOf number) ⌝ }
 {
-    if number < 17 {
+    if number < 20 {
         return TABLE[number as usize];
     }
     [0x00, 0x00, 0x00]
