@@ -1,16 +1,19 @@
 -- Laws of the INQUIRY entry: what the checks leave true once they have passed, and the page's size.
 use mathlib.Core.Path.{_≡_, refl, sym, _∙_}
-use mathlib.Core.Bool.{Bool, true, false, cond, _&&_, _||_, not, and-eq-true-iff, true≢false}
+use mathlib.Core.Bool.{Bool, true, false, cond, _&&_, _||_, not, and-eq-true-iff, or-true, true≢false}
 use mathlib.Core.List.{List}
-use Prim.Native.Nat.{ℕ, _≤_}
+use Prim.Native.Nat.{ℕ, _+_, _≤_}
 use lib.Dec.{eqb, ltb}
 use lib.ListN.{length, take, drop}
 use borrow.Author.Tests.{eq-eqb, ne-eqb, eqb-true, eqb-false, ltb-false, not-false}
 use Rattle.rules.proofs.First.{silent, neither, first-answers, second-answers}
 use Rattle.sense.specs.Helpers.{Roomy}
 use Rattle.sense.proofs.Sense.{roomy-unless}
-use Rattle.pages.specs.Page.{page00}
+use Rattle.pages.specs.Page.{page00, page89, blockOrZeros}
 use Rattle.pages.proofs.Laws.{length-page89}
+use Rattle.page83.specs.declared.Ports.{Ports}
+use Rattle.page83.specs.Ports.{wrongAddress}
+use Rattle.page83.proofs.Laws.{page-size}
 use Rattle.packet.specs.Packet.{unusable}
 use Rattle.inquiry_fields.specs.Fields.{evpd, cmddt, pageCode}
 use Rattle.inquiry_checks.specs.Request.{Request, isPacket, passesThrough}
@@ -23,46 +26,57 @@ length-cond true x y = refl
 length-cond false x y = refl
 
 -- The sizes, where check 1 does not apply.
-pub record Sized (block signature texts : List ℕ) (sense : ℕ) : Type 0 where
+pub record Sized (block signature texts : List ℕ) (ports : Ports) (address : List ℕ) (sense : ℕ) : Type 0 where
   pub whole-or-none : not (eqb (length block) 512 || eqb (length block) 0) ≡ false
   pub twenty : length signature ≡ 20
   pub twenty-eight : length texts ≡ 28
+  pub right-address : wrongAddress ports address ≡ false
   pub enough : 22 ≤ sense
 
-pub sized : (block signature texts : List ℕ) (sense : ℕ) → wrongSize block signature texts sense ≡ false → Sized block signature texts sense
-sized block signature texts sense e =
+pub sized : (block signature texts : List ℕ) (ports : Ports) (address : List ℕ) (sense : ℕ) → wrongSize block signature texts ports address sense ≡ false → Sized block signature texts ports address sense
+sized block signature texts ports address sense e =
     let a = not (eqb (length block) 512 || eqb (length block) 0) in
     let b = not (eqb (length signature) 20) in
     let c = not (eqb (length texts) 28) in
-    let s = neither (a || b || c) (ltb sense 22) e in
-    let t = neither (a || b) c (s .0) in
+    let d = wrongAddress ports address in
+    let s = neither (a || b || c || d) (ltb sense 22) e in
+    let u = neither (a || b || c) d (s .0) in
+    let t = neither (a || b) c (u .0) in
     record {
       whole-or-none = neither a b (t .0) .0;
       twenty = eqb-true _ _ (not-false _ (neither a b (t .0) .1));
       twenty-eight = eqb-true _ _ (not-false _ (t .1));
+      right-address = u .1;
       enough = ltb-false _ _ (s .1);
     }
 
 -- The page's size does not hang on what the texts and the signature say.
-pub length-page : (q : Request) → length (q .texts) ≡ 28 → length (q .signature) ≡ 20 → length (page q) ≡ sizeOf (isPacket q) (q .command) (q .block) (q .reply)
+pub length-page : (q : Request) → Servable q → length (page q) ≡ sizeOf (isPacket q) (q .command) (q .block) (q .reply) (q .ports)
 unfolding page sizeOf page00
-length-page q ht hs = simp (length-cond, length-page89 (isPacket q) (q .texts) (q .signature) (q .block) ht hs)
+length-page q s = by (eqb (pageCode (q .command)) 0x83) refl
+  where
+    information : length (page89 (isPacket q) (q .texts) (q .signature) (q .block)) ≡ 60 + length (blockOrZeros (q .block))
+    information = length-page89 (isPacket q) (q .texts) (q .signature) (q .block) (s .texts) (s .signature)
+
+    by : (t : Bool) → eqb (pageCode (q .command)) 0x83 ≡ t → length (page q) ≡ sizeOf (isPacket q) (q .command) (q .block) (q .reply) (q .ports)
+    by true e = simp (length-cond, information, page-size (q .block) (q .ports) (q .address) (s .block (rw (e, or-true))) (s .address))
+    by false e = simp (e, length-cond, information)
 
 -- A refusal that writes has room for it.
 pub roomy : (q : Request) (sense : ℕ) {number : ℕ} → number ≡ earlyRefusal q sense → Roomy number sense
 unfolding earlyRefusal
 roomy q sense e =
-    roomy-unless (wrongSize (q .block) (q .signature) (q .texts) sense) _ (λ w. sized (q .block) (q .signature) (q .texts) sense w .enough) e
+    roomy-unless (wrongSize (q .block) (q .signature) (q .texts) (q .ports) (q .address) sense) _ (λ w. sized (q .block) (q .signature) (q .texts) (q .ports) (q .address) sense w .enough) e
 
 -- The refusal, by the checks that do not look at the room and the one that does.
 module _ (q : Request) (room sense : ℕ) where
   pub refused-early : (earlyRefusal q sense ≡ 0 → ⊥) → refusalOf q room sense ≡ earlyRefusal q sense
   unfolding refusalOf earlyRefusal
-  refused-early = first-answers (take 9 (checks q room sense)) (drop 9 (checks q room sense)) refl
+  refused-early = first-answers (take 10 (checks q room sense)) (drop 10 (checks q room sense)) refl
 
   pub refused-late : earlyRefusal q sense ≡ 0 → refusalOf q room sense ≡ cond (not (passesThrough (isPacket q) (q .command)) && ltb room (toWrite q)) 8 0
   unfolding refusalOf earlyRefusal
-  refused-late = second-answers (take 9 (checks q room sense)) (drop 9 (checks q room sense)) refl
+  refused-late = second-answers (take 10 (checks q room sense)) (drop 10 (checks q room sense)) refl
 
   pub accepted-early : refusalOf q room sense ≡ 0 → earlyRefusal q sense ≡ 0
   accepted-early z = by (eqb (earlyRefusal q sense) 0) refl
@@ -99,8 +113,8 @@ pub record Granted (q : Request) : Type 0 where
 pub granted : (q : Request) (sense : ℕ) → earlyRefusal q sense ≡ 0 → Granted q
 unfolding earlyRefusal
 granted q sense e =
-    let c = silent (take 9 (checks q 0 sense)) refl e in
-    let s = sized (q .block) (q .signature) (q .texts) sense (c .0) in
+    let c = silent (take 10 (checks q 0 sense)) refl e in
+    let s = sized (q .block) (q .signature) (q .texts) (q .ports) (q .address) sense (c .0) in
     let short = c .1 .1 .1 .1 in
     let list = short .1 .1 .1 in
     record {
@@ -111,7 +125,8 @@ granted q sense e =
             signature = s .twenty;
             whole-or-none = λ some. eqb-true _ _ (one-of (eqb (length (q .block)) 512) _ true (rw (ne-eqb _ _ some)) refl (s .whole-or-none));
             block = whole-block (isPacket q) (evpd (q .command)) (cmddt (q .command)) (pageCode (q .command)) (length (q .block)) (list .0) (s .whole-or-none) h;
-            reply = listed (isPacket q) (eqb (pageCode (q .command)) 0x00) (unusable (q .reply)) _ h (list .1 .0);
+            reply = listed (isPacket q) (eqb (pageCode (q .command)) 0x00) (unusable (q .reply)) _ h (list .1 .1 .0);
+            address = s .right-address;
           };
       whole = ltb-false _ _ (short .0);
     }

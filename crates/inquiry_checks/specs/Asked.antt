@@ -16,7 +16,7 @@ page q =
     cond (not (isPacket q) && not (evpd (q .command))) (standard (q .block))
     (cond (eqb (pageCode (q .command)) 0x00) (cond (isPacket q) (packetPage00 (q .reply)) page00)
     (cond (eqb (pageCode (q .command)) 0x80) (page80 (q .block))
-    (cond (eqb (pageCode (q .command)) 0x83) (page83 (q .block))
+    (cond (eqb (pageCode (q .command)) 0x83) (page83 (q .block) (q .ports) (q .address))
     (page89 (isPacket q) (q .texts) (q .signature) (q .block)))))
 
 -- n, the bytes to write: the page's size, or the allocation length where that is less.

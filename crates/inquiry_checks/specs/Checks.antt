@@ -6,17 +6,21 @@ use lib.Dec.{eqb, ltb}
 use lib.ListN.{length, getD}
 use Rattle.rules.specs.First.{Check, _when_, first}
 use Rattle.checksum.specs.Checksum.{damaged}
+use Rattle.page83.specs.declared.Ports.{Ports}
+use Rattle.page83.specs.Ports.{wrongAddress, wrongPort}
 use Rattle.packet.specs.Packet.{unusable}
 use Rattle.inquiry_fields.specs.Fields.{evpd, cmddt, pageCode, naca}
 use Rattle.inquiry_checks.specs.Request.{Request, isPacket, passesThrough}
 use Rattle.inquiry_checks.specs.Asked.{toWrite}
 
--- 1: a block of neither 512 bytes nor none, a signature not of 20, texts not of 28, or a sense room below 22.
-abbrev pub wrongSize : List ℕ → List ℕ → List ℕ → ℕ → Bool
-wrongSize block signature texts sense =
+-- 1: a block of neither 512 bytes nor none, a signature not of 20, texts not of 28, a chosen address not of 8, or a sense room
+-- below 22.
+abbrev pub wrongSize : List ℕ → List ℕ → List ℕ → Ports → List ℕ → ℕ → Bool
+wrongSize block signature texts ports address sense =
     not (eqb (length block) 512 || eqb (length block) 0)
     || not (eqb (length signature) 20)
     || not (eqb (length texts) 28)
+    || wrongAddress ports address
     || ltb sense 22
 
 -- 4: NACA, CMDDT, or a page code without EVPD.
@@ -35,16 +39,20 @@ abbrev pub noBlock : List ℕ → List ℕ → Bool
 noBlock command block =
     eqb (length block) 0 && (not (evpd command) || eqb (pageCode command) 0x80 || eqb (pageCode command) 0x83)
 
+-- 19: page 83h is asked, and the chosen relative target port is not 1 or 2.
+abbrev pub noPort : List ℕ → Ports → Bool
+noPort command ports = evpd command && eqb (pageCode command) 0x83 && wrongPort ports
+
 -- 7: a packet drive is asked for page 00h, and its own is unusable.
 abbrev pub noList : Bool → List ℕ → List ℕ → Bool
 noList packet command reply =
     packet && not (passesThrough packet command) && eqb (pageCode command) 0x00 && unusable reply
 
--- All of them in their order. 4 to 6 do not concern packet drives, nor 8 a reply that passes through. Of room and sense room they
--- look at the size alone.
+-- All of them in their order. 4 to 6 and 19 do not concern packet drives, nor 8 a reply that passes through. Of room and sense room
+-- they look at the size alone.
 abbrev pub checks : Request → ℕ → ℕ → List Check
 checks q room sense =
-    (1 when wrongSize (q .block) (q .signature) (q .texts) sense)
+    (1 when wrongSize (q .block) (q .signature) (q .texts) (q .ports) (q .address) sense)
     ∷ (18 when damaged (q .block))
     ∷ (2 when eqb (length (q .command)) 0)
     ∷ (3 when not (eqb (getD (q .command) 0 0) 0x12))
@@ -52,6 +60,7 @@ checks q room sense =
     ∷ (4 when not (isPacket q) && wrongField (q .command))
     ∷ (5 when not (isPacket q) && wrongPage (q .command))
     ∷ (6 when not (isPacket q) && noBlock (q .command) (q .block))
+    ∷ (19 when not (isPacket q) && noPort (q .command) (q .ports))
     ∷ (7 when noList (isPacket q) (q .command) (q .reply))
     ∷ (8 when not (passesThrough (isPacket q) (q .command)) && ltb room (toWrite q))
     ∷ []

@@ -6,7 +6,9 @@ use Prim.Native.Nat.{ℕ, _+_, _≤_}
 use lib.Dec.{eqb}
 use lib.ListN.{length, take}
 use Rattle.rules.specs.First.{first}
-use Rattle.page83.specs.Page83.{page83}
+use Rattle.page83.specs.declared.Ports.{Ports}
+use Rattle.page83.specs.Ports.{wrongAddress}
+use Rattle.page83.specs.Helpers.{pageSize}
 use Rattle.pages.specs.Page.{standard, page80, blockOrZeros}
 use Rattle.pages.specs.Helpers.{WholeOrNone}
 use Rattle.packet.specs.Packet.{unusable, page00 as packetPage00}
@@ -15,12 +17,12 @@ use Rattle.inquiry_checks.specs.Request.{Request, isPacket}
 use Rattle.inquiry_checks.specs.Checks.{checks}
 
 -- The size of the page that is asked for, which looks at fewer of the lent pieces than the page.
-unfoldable pub sizeOf : Bool → List ℕ → List ℕ → List ℕ → ℕ
-sizeOf packet command block reply =
+unfoldable pub sizeOf : Bool → List ℕ → List ℕ → List ℕ → Ports → ℕ
+sizeOf packet command block reply ports =
     cond (not packet && not (evpd command)) (length (standard block))
     (cond (eqb (pageCode command) 0x00) (cond packet (length (packetPage00 reply)) 8)
     (cond (eqb (pageCode command) 0x80) (length (page80 block))
-    (cond (eqb (pageCode command) 0x83) (length (page83 block))
+    (cond (eqb (pageCode command) 0x83) (pageSize block ports)
     (60 + length (blockOrZeros block)))))
 
 -- Whether the page is made of the block.
@@ -30,7 +32,7 @@ fromBlock packet command =
 
 -- All checks but the last, which alone looks at the room.
 unfoldable pub earlyRefusal : Request → ℕ → ℕ
-earlyRefusal q sense = first (take 9 (checks q 0 sense))
+earlyRefusal q sense = first (take 10 (checks q 0 sense))
 
 -- What writing the page takes for granted, once the checks have passed.
 pub record Servable (q : Request) : Type 0 where
@@ -40,3 +42,4 @@ pub record Servable (q : Request) : Type 0 where
   pub reply : (eqb (pageCode (q .command)) 0x00 && isPacket q && unusable (q .reply)) ≡ false
   pub block : fromBlock (isPacket q) (q .command) ≡ true → length (q .block) ≡ 512
   pub whole-or-none : WholeOrNone (q .block)
+  pub address : wrongAddress (q .ports) (q .address) ≡ false

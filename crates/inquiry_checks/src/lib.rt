@@ -1,5 +1,7 @@
 // Inquiry checks: what is asked of INQUIRY, the size of its page, and the checks, one function each; `fault` runs them in the table's
 // order. The rules stand in specs/: Request, Asked and Checks.
+use page83::Ports;
+use page83::port;
 ghost use mathlib.Core.Path.{_≡_};
 ghost use mathlib.Core.Bool.{Bool, true, _&&_, _||_, not};
 ghost use mathlib.Core.List.{List};
@@ -8,7 +10,7 @@ ghost use lib.Dec.{eqb};
 ghost use lib.ListN.{length};
 ghost use Rattle.inquiry_fields.specs.Fields.{evpd};
 ghost use Rattle.inquiry_checks.specs.Request.{request, passesThrough};
-ghost use Rattle.inquiry_checks.specs.Checks.{wrongSize, wrongField, knownPage, wrongPage, noBlock, noList};
+ghost use Rattle.inquiry_checks.specs.Checks.{wrongSize, wrongField, knownPage, wrongPage, noBlock, noPort, noList};
 ghost use Rattle.inquiry_checks.specs.Helpers.{fromBlock, sizeOf, earlyRefusal};
 
 // Neither 512 bytes nor none.
@@ -22,8 +24,15 @@ fn wrong_block(block: usize) -> bool
 }
 
 // 1: a lent piece of a wrong size.
-fn wrong_size(block: &[u8], signature: &[u8], texts: &[u8], sense: usize) -> bool
-    ensures { λ r. ⌜ r ≡ wrongSize (now (block .entry)) (now (signature .entry)) (now (texts .entry)) sense ⌝ }
+fn wrong_size(
+    block: &[u8],
+    signature: &[u8],
+    texts: &[u8],
+    ports: Ports,
+    address: &[u8],
+    sense: usize,
+) -> bool
+    ensures { λ r. ⌜ r ≡ wrongSize (now (block .entry)) (now (signature .entry)) (now (texts .entry)) ports (now (address .entry)) sense ⌝ }
 {
     if wrong_block(block.len()) {
         return true;
@@ -32,6 +41,9 @@ fn wrong_size(block: &[u8], signature: &[u8], texts: &[u8], sense: usize) -> boo
         return true;
     }
     if texts.len() != 28 {
+        return true;
+    }
+    if port::wrong_address(ports, address) {
         return true;
     }
     sense < 22
@@ -107,6 +119,23 @@ fn no_block(packet: bool, command: &[u8], block: &[u8]) -> bool
     command[2] == 0x83
 }
 
+// 19: page 83h, and a port that is not 1 or 2. The ports are asked first, since nearly no call chooses a wrong one.
+fn no_port(packet: bool, command: &[u8], ports: Ports) -> bool
+    requires { ⌜ 6 ≤ length (now command) ⌝ }
+    ensures { λ r. ⌜ r ≡ (not packet && noPort (now (command .entry)) ports) ⌝ }
+{
+    if !port::wrong_port(ports) {
+        return false;
+    }
+    if packet {
+        return false;
+    }
+    if inquiry_fields::evpd(command) {
+        return command[2] == 0x83;
+    }
+    false
+}
+
 // Whether a packet drive's own reply is shown.
 pub fn passes_through(packet: bool, command: &[u8]) -> bool
     requires { ⌜ 6 ≤ length (now command) ⌝ }
@@ -156,9 +185,9 @@ pub fn standard_asked(packet: bool, command: &[u8]) -> bool
 }
 
 // The size of the page that is asked for.
-pub fn size(packet: bool, command: &[u8], block: &[u8], reply: &[u8]) -> usize
+pub fn size(packet: bool, command: &[u8], block: &[u8], reply: &[u8], ports: Ports) -> usize
     requires { ⌜ (6 ≤ length (now command)) × (fromBlock packet (now command) ≡ true → length (now block) ≡ 512) ⌝ }
-    ensures { λ r. ⌜ r ≡ sizeOf packet (now (command .entry)) (now (block .entry)) (now (reply .entry)) ⌝ }
+    ensures { λ r. ⌜ r ≡ sizeOf packet (now (command .entry)) (now (block .entry)) (now (reply .entry)) ports ⌝ }
 {
     if standard_asked(packet, command) {
         return pages::STANDARD_SIZE;
@@ -173,7 +202,7 @@ pub fn size(packet: bool, command: &[u8], block: &[u8], reply: &[u8]) -> usize
         return pages::SERIAL_SIZE;
     }
     if command[2] == 0x83 {
-        return page83::size(block);
+        return page83::size(block, ports);
     }
     pages::information_size(block)
 }
@@ -185,11 +214,13 @@ pub fn fault(
     signature: &[u8],
     texts: &[u8],
     reply: &[u8],
+    ports: Ports,
+    address: &[u8],
     sense: usize,
 ) -> u8
-    ensures { λ r. ⌜ r ≡ earlyRefusal (request (now (command .entry)) (now (block .entry)) (now (signature .entry)) (now (texts .entry)) (now (reply .entry))) sense ⌝ }
+    ensures { λ r. ⌜ r ≡ earlyRefusal (request (now (command .entry)) (now (block .entry)) (now (signature .entry)) (now (texts .entry)) (now (reply .entry)) ports (now (address .entry))) sense ⌝ }
 {
-    if wrong_size(block, signature, texts, sense) {
+    if wrong_size(block, signature, texts, ports, address, sense) {
         return 1;
     }
     if checksum::damaged(block) {
@@ -213,6 +244,9 @@ pub fn fault(
     }
     if no_block(packet, command, block) {
         return 6;
+    }
+    if no_port(packet, command, ports) {
+        return 19;
     }
     if no_list(packet, command, reply) {
         return 7;

@@ -15,7 +15,7 @@ use Rattle.texts.proofs.Text.{length-turned, length-spaced}
 use Rattle.page83.specs.declared.Ports.{Ports}
 use Rattle.page83.specs.Ports.{relativeChosen, sasChosen, relativePort, sasPort, relativePart, sasPart, portsPart, wrongAddress}
 use Rattle.page83.specs.Page83.{page83, head, nameDescriptor, textDescriptor, driveDescriptor, ata}
-use Rattle.page83.specs.Helpers.{portsSize, driveEnd}
+use Rattle.page83.specs.Helpers.{portsSize, driveEnd, pageSize}
 
 module _ (block : List ℕ) where
   pub named-drive : carriesName block ≡ true → driveDescriptor block ≡ nameDescriptor (turned (name block))
@@ -78,7 +78,7 @@ module _ (ports : Ports) (address : List ℕ) where
 
 -- The page's size, and the page by that of its parts.
 module _ (block : List ℕ) (ports : Ports) (address : List ℕ) (h : length block ≡ 512) (g : wrongAddress ports address ≡ false) where
-  pub page-size : length (page83 block ports address) ≡ driveEnd (carriesName block) + portsSize ports
+  pub page-size : length (page83 block ports address) ≡ pageSize block ports
   unfolding page83
   page-size = omega (arith, length-append (driveDescriptor block) (portsPart ports address), length-drive block h, length-ports ports address g)
 

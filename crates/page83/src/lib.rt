@@ -13,7 +13,7 @@ ghost use Rattle.identify.specs.Drive.{carriesName};
 ghost use Rattle.texts.specs.Text.{turned, spaced};
 ghost use Rattle.page83.specs.Ports.{wrongAddress};
 ghost use Rattle.page83.specs.Page83.{page83, head, nameDescriptor, textDescriptor, driveDescriptor, outcome, write as Page83·write};
-ghost use Rattle.page83.specs.Helpers.{portsSize, driveEnd};
+ghost use Rattle.page83.specs.Helpers.{portsSize, driveEnd, pageSize};
 
 // The target ports that a caller chooses: bit 0 the relative one, whose number stands beside it, bit 1 the SAS one, whose address is
 // lent.
@@ -157,7 +157,7 @@ fn size_of(named: bool, ports: Ports) -> usize
 // The page's size; the address counts as one of 8 bytes.
 pub fn size(block: &[u8], ports: Ports) -> usize
     requires { ⌜ length (now block) ≡ 512 ⌝ }
-    ensures { λ r. ⌜ r ≡ driveEnd (carriesName (now (block .entry))) + portsSize ports ⌝ }
+    ensures { λ r. ⌜ r ≡ pageSize (now (block .entry)) ports ⌝ }
 {
     size_of(identify::carries_name(block), ports)
 }

@@ -59,16 +59,23 @@ returns-8 : tie.Need-returns-8
 unfolding earlyRefusal
 returns-8 c = rw (sym (c .before .before .before .before .before .before .before .before .before .before .before .before .before .before .wrong-size .ensures) ∙ c .before .before .before .before .before .before .before .before .before .before .before .before .before .if1 .left, sym (c .before .before .before .before .before .before .before .before .before .before .before .before .damaged .ensures) ∙ c .before .before .before .before .before .before .before .before .before .before .before .if2 .left, ne-eqb _ _ (c .before .before .before .before .before .before .before .before .before .before .if3 .left), eq-eqb _ _ (c .before .before .before .before .before .before .before .before .if4 .left), le-ltb _ _ (c .before .before .before .before .before .before .before .if5 .left), ← c .before .before .before .before .before .before .packet-drive .ensures, sym (c .before .before .before .before .before .wrong-field .ensures) ∙ c .before .before .before .before .if6 .left, sym (c .before .before .before .wrong-page .ensures) ∙ c .before .before .if7 .left, sym (c .before .no-block .ensures) ∙ c .if8 .taken)
 
-no-list-requires : tie.Need-no-list-requires
-no-list-requires c κs = search needs
+no-port-requires : tie.Need-no-port-requires
+no-port-requires c κs = search needs
 
 returns-9 : tie.Need-returns-9
 unfolding earlyRefusal
-returns-9 c = rw (sym (c .before .before .before .before .before .before .before .before .before .before .before .before .before .before .before .before .wrong-size .ensures) ∙ c .before .before .before .before .before .before .before .before .before .before .before .before .before .before .before .if1 .left, sym (c .before .before .before .before .before .before .before .before .before .before .before .before .before .before .damaged .ensures) ∙ c .before .before .before .before .before .before .before .before .before .before .before .before .before .if2 .left, ne-eqb _ _ (c .before .before .before .before .before .before .before .before .before .before .before .before .if3 .left), eq-eqb _ _ (c .before .before .before .before .before .before .before .before .before .before .if4 .left), le-ltb _ _ (c .before .before .before .before .before .before .before .before .before .if5 .left), ← c .before .before .before .before .before .before .before .before .packet-drive .ensures, sym (c .before .before .before .before .before .before .before .wrong-field .ensures) ∙ c .before .before .before .before .before .before .if6 .left, sym (c .before .before .before .before .before .wrong-page .ensures) ∙ c .before .before .before .before .if7 .left, sym (c .before .before .before .no-block .ensures) ∙ c .before .before .if8 .left, sym (c .before .no-list .ensures) ∙ c .if9 .taken)
+returns-9 c = rw (sym (c .before .before .before .before .before .before .before .before .before .before .before .before .before .before .before .before .wrong-size .ensures) ∙ c .before .before .before .before .before .before .before .before .before .before .before .before .before .before .before .if1 .left, sym (c .before .before .before .before .before .before .before .before .before .before .before .before .before .before .damaged .ensures) ∙ c .before .before .before .before .before .before .before .before .before .before .before .before .before .if2 .left, ne-eqb _ _ (c .before .before .before .before .before .before .before .before .before .before .before .before .if3 .left), eq-eqb _ _ (c .before .before .before .before .before .before .before .before .before .before .if4 .left), le-ltb _ _ (c .before .before .before .before .before .before .before .before .before .if5 .left), ← c .before .before .before .before .before .before .before .before .packet-drive .ensures, sym (c .before .before .before .before .before .before .before .wrong-field .ensures) ∙ c .before .before .before .before .before .before .if6 .left, sym (c .before .before .before .before .before .wrong-page .ensures) ∙ c .before .before .before .before .if7 .left, sym (c .before .before .before .no-block .ensures) ∙ c .before .before .if8 .left, sym (c .before .no-port .ensures) ∙ c .if9 .taken)
+
+no-list-requires : tie.Need-no-list-requires
+no-list-requires c κs = search needs
 
 returns-10 : tie.Need-returns-10
 unfolding earlyRefusal
-returns-10 c = rw (sym (c .before .before .before .before .before .before .before .before .before .before .before .before .before .before .before .before .wrong-size .ensures) ∙ c .before .before .before .before .before .before .before .before .before .before .before .before .before .before .before .if1 .left, sym (c .before .before .before .before .before .before .before .before .before .before .before .before .before .before .damaged .ensures) ∙ c .before .before .before .before .before .before .before .before .before .before .before .before .before .if2 .left, ne-eqb _ _ (c .before .before .before .before .before .before .before .before .before .before .before .before .if3 .left), eq-eqb _ _ (c .before .before .before .before .before .before .before .before .before .before .if4 .left), le-ltb _ _ (c .before .before .before .before .before .before .before .before .before .if5 .left), ← c .before .before .before .before .before .before .before .before .packet-drive .ensures, sym (c .before .before .before .before .before .before .before .wrong-field .ensures) ∙ c .before .before .before .before .before .before .if6 .left, sym (c .before .before .before .before .before .wrong-page .ensures) ∙ c .before .before .before .before .if7 .left, sym (c .before .before .before .no-block .ensures) ∙ c .before .before .if8 .left, sym (c .before .no-list .ensures) ∙ c .if9 .left)
+returns-10 c = rw (sym (c .before .before .before .before .before .before .before .before .before .before .before .before .before .before .before .before .before .before .wrong-size .ensures) ∙ c .before .before .before .before .before .before .before .before .before .before .before .before .before .before .before .before .before .if1 .left, sym (c .before .before .before .before .before .before .before .before .before .before .before .before .before .before .before .before .damaged .ensures) ∙ c .before .before .before .before .before .before .before .before .before .before .before .before .before .before .before .if2 .left, ne-eqb _ _ (c .before .before .before .before .before .before .before .before .before .before .before .before .before .before .if3 .left), eq-eqb _ _ (c .before .before .before .before .before .before .before .before .before .before .before .before .if4 .left), le-ltb _ _ (c .before .before .before .before .before .before .before .before .before .before .before .if5 .left), ← c .before .before .before .before .before .before .before .before .before .before .packet-drive .ensures, sym (c .before .before .before .before .before .before .before .before .before .wrong-field .ensures) ∙ c .before .before .before .before .before .before .before .before .if6 .left, sym (c .before .before .before .before .before .before .before .wrong-page .ensures) ∙ c .before .before .before .before .before .before .if7 .left, sym (c .before .before .before .before .before .no-block .ensures) ∙ c .before .before .before .before .if8 .left, sym (c .before .before .before .no-port .ensures) ∙ c .before .before .if9 .left, sym (c .before .no-list .ensures) ∙ c .if10 .taken)
+
+returns-11 : tie.Need-returns-11
+unfolding earlyRefusal
+returns-11 c = rw (sym (c .before .before .before .before .before .before .before .before .before .before .before .before .before .before .before .before .before .before .wrong-size .ensures) ∙ c .before .before .before .before .before .before .before .before .before .before .before .before .before .before .before .before .before .if1 .left, sym (c .before .before .before .before .before .before .before .before .before .before .before .before .before .before .before .before .damaged .ensures) ∙ c .before .before .before .before .before .before .before .before .before .before .before .before .before .before .before .if2 .left, ne-eqb _ _ (c .before .before .before .before .before .before .before .before .before .before .before .before .before .before .if3 .left), eq-eqb _ _ (c .before .before .before .before .before .before .before .before .before .before .before .before .if4 .left), le-ltb _ _ (c .before .before .before .before .before .before .before .before .before .before .before .if5 .left), ← c .before .before .before .before .before .before .before .before .before .before .packet-drive .ensures, sym (c .before .before .before .before .before .before .before .before .before .wrong-field .ensures) ∙ c .before .before .before .before .before .before .before .before .if6 .left, sym (c .before .before .before .before .before .before .before .wrong-page .ensures) ∙ c .before .before .before .before .before .before .if7 .left, sym (c .before .before .before .before .before .no-block .ensures) ∙ c .before .before .before .before .if8 .left, sym (c .before .before .before .no-port .ensures) ∙ c .before .before .if9 .left, sym (c .before .no-list .ensures) ∙ c .if10 .left)
 
 pub fault-spec : {M : Type 1} → statement M
 fault-spec =
@@ -89,6 +96,8 @@ fault-spec =
     returns-7
     no-block-requires
     returns-8
-    no-list-requires
+    no-port-requires
     returns-9
-    returns-10)
+    no-list-requires
+    returns-10
+    returns-11)
