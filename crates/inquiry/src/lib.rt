@@ -1,4 +1,5 @@
 // Inquiry: the entry that answers INQUIRY, and the part that an answer shows. The rule stands in specs/Inquiry.
+use page83::Ports;
 ghost use mathlib.Core.Path.{_≡_};
 ghost use mathlib.Core.List.{List};
 ghost use lib.ListN.{length};
@@ -28,9 +29,11 @@ fn put_page(
     signature: &[u8],
     texts: &[u8],
     reply: &[u8],
+    ports: Ports,
+    address: &[u8],
 )
-    requires { ⌜ Servable (request (now command) (now block) (now signature) (now texts) (now reply)) ⌝ }
-    ensures { λ _. ⌜ Wrote (now (room .entry)) 0 (Inquiry·page (request (now (command .entry)) (now (block .entry)) (now (signature .entry)) (now (texts .entry)) (now (reply .entry)))) (now (room .exit)) ⌝ }
+    requires { ⌜ Servable (request (now command) (now block) (now signature) (now texts) (now reply) ports (now address)) ⌝ }
+    ensures { λ _. ⌜ Wrote (now (room .entry)) 0 (Inquiry·page (request (now (command .entry)) (now (block .entry)) (now (signature .entry)) (now (texts .entry)) (now (reply .entry)) ports (now (address .entry)))) (now (room .exit)) ⌝ }
 {
     let packet = packet::packet_drive(signature);
     if inquiry_checks::standard_asked(packet, command) {
@@ -50,7 +53,7 @@ fn put_page(
         return;
     }
     if command[2] == 0x83 {
-        page83::put(room, block);
+        page83::put(room, block, ports, address);
         return;
     }
     pages::put_information(room, packet, texts, signature, block);
@@ -78,13 +81,15 @@ pub fn inquiry(
     signature: &[u8],
     texts: &[u8],
     reply: &[u8],
+    ports: Ports,
+    address: &[u8],
     form: u8,
     room: &mut [u8],
     sense: &mut [u8],
 ) -> Answer
-    ensures { λ r. ⌜ outcome r (now (room .exit)) (now (sense .exit)) ≡ Inquiry·inquiry (request (now (command .entry)) (now (block .entry)) (now (signature .entry)) (now (texts .entry)) (now (reply .entry))) form (now (room .entry)) (now (sense .entry)) ⌝ }
+    ensures { λ r. ⌜ outcome r (now (room .exit)) (now (sense .exit)) ≡ Inquiry·inquiry (request (now (command .entry)) (now (block .entry)) (now (signature .entry)) (now (texts .entry)) (now (reply .entry)) ports (now (address .entry))) form (now (room .entry)) (now (sense .entry)) ⌝ }
 {
-    let number = inquiry_checks::fault(command, block, signature, texts, reply, sense.len());
+    let number = inquiry_checks::fault(command, block, signature, texts, reply, ports, address, sense.len());
     if number != 0 {
         return refuse(sense, form, number);
     }
@@ -98,12 +103,12 @@ pub fn inquiry(
             count: rules::lesser(reply.len(), allocation),
         };
     }
-    let size = inquiry_checks::size(packet, command, block, reply);
+    let size = inquiry_checks::size(packet, command, block, reply, ports);
     let n = rules::lesser(size, allocation);
     if room.len() < n {
         return refuse(sense, form, 8);
     }
-    put_page(&mut room[..n], command, block, signature, texts, reply);
+    put_page(&mut room[..n], command, block, signature, texts, reply, ports, address);
     Answer {
         number: 0,
         status: sense::GOOD,

@@ -21,17 +21,17 @@ use Rattle.inquiry.proofs.inquiry.Tie as tie
 -- What is asked for, and what is known of it once none of the early checks has applied.
 abbrev asked : tie.Else1 → Request
 asked c =
-    let a = c .before .before .before .before .before .before .before .before .before .args in
-    request (a .command .now) (a .block .now) (a .signature .now) (a .texts .now) (a .reply .now)
+    let a = c .before .before .before .before .before .before .before .before .before .before .args in
+    request (a .command .now) (a .block .now) (a .signature .now) (a .texts .now) (a .reply .now) (a .ports) (a .address .now)
 
-none-early : (c : tie.Else1) → earlyRefusal (asked c) (length (c .before .before .before .before .before .before .before .before .before .args .sense .now)) ≡ 0
+none-early : (c : tie.Else1) → earlyRefusal (asked c) (length (c .before .before .before .before .before .before .before .before .before .before .args .sense .now)) ≡ 0
 none-early c = sym (c .before .fault .ensures) ∙ c .if1 .left
 
 here : (c : tie.Else1) → Granted (asked c)
 here c = granted (asked c) _ (none-early c)
 
-late : (c : tie.Else1) → refusalOf (asked c) (length (c .before .before .before .before .before .before .before .before .before .args .room .now)) (length (c .before .before .before .before .before .before .before .before .before .args .sense .now)) ≡ cond (not (passesThrough (isPacket (asked c)) (asked c .command)) && ltb (length (c .before .before .before .before .before .before .before .before .before .args .room .now)) (toWrite (asked c))) 8 0
-late c = refused-late (asked c) (length (c .before .before .before .before .before .before .before .before .before .args .room .now)) (length (c .before .before .before .before .before .before .before .before .before .args .sense .now)) (none-early c)
+late : (c : tie.Else1) → refusalOf (asked c) (length (c .before .before .before .before .before .before .before .before .before .before .args .room .now)) (length (c .before .before .before .before .before .before .before .before .before .before .args .sense .now)) ≡ cond (not (passesThrough (isPacket (asked c)) (asked c .command)) && ltb (length (c .before .before .before .before .before .before .before .before .before .before .args .room .now)) (toWrite (asked c))) 8 0
+late c = refused-late (asked c) (length (c .before .before .before .before .before .before .before .before .before .before .args .room .now)) (length (c .before .before .before .before .before .before .before .before .before .before .args .sense .now)) (none-early c)
 
 -- The page is served here.
 served-here : (c : tie.Else2) → passesThrough (isPacket (asked (c .before .before .before .before))) (asked (c .before .before .before .before) .command) ≡ false
@@ -42,7 +42,7 @@ n-is : (c : tie.After-lesser2) → c .lesser2 .result ≡ toWrite (asked (c .bef
 n-is c =
     let e = c .before .before .before .before .before .before in
     let s = here e .servable (served-here (c .before .before)) in
-    rw (length-page (asked e) (s .texts) (s .signature), ← c .before .before .before .before .before .packet-drive .ensures, ← c .before .size .ensures, ← c .before .before .before .before .allocation .ensures) (c .lesser2 .ensures)
+    rw (length-page (asked e) s, ← c .before .before .before .before .before .packet-drive .ensures, ← c .before .size .ensures, ← c .before .before .before .before .allocation .ensures) (c .lesser2 .ensures)
 
 fault-requires : tie.Need-fault-requires
 fault-requires c κs = search needs
@@ -56,8 +56,8 @@ same-length c = search needs
 returns : tie.Need-returns
 unfolding inquiry
 returns c =
-    let a = c .before .before .before .before .before .before .before .before .before .before .before .before .before .args in
-    let q = request (a .command .now) (a .block .now) (a .signature .now) (a .texts .now) (a .reply .now) in
+    let a = c .before .before .before .before .before .before .before .before .before .before .before .before .before .before .args in
+    let q = request (a .command .now) (a .block .now) (a .signature .now) (a .texts .now) (a .reply .now) (a .ports) (a .address .now) in
     rw (refused-early q (length (a .room .now)) (length (a .sense .now)) (λ z. c .before .before .before .before .if1 .taken (c .before .before .before .before .before .fault .ensures ∙ z)), ← c .before .before .before .before .before .fault .ensures, ne-eqb _ _ (c .before .before .before .before .if1 .taken), c .before .before .refuse .ensures .0, c .before .before .refuse .ensures .1)
 
 packet-drive-requires : tie.Need-packet-drive-requires
@@ -102,7 +102,7 @@ slice-relend-prefix-put-page c = search needs
 
 slice-aggregate-put-page : tie.Need-slice-aggregate-put-page
 slice-aggregate-put-page c =
-    sym (length-take-le _ (c .before .before .before .before .before .before .before .before .before .before .before .before .before .before .before .before .before .args .room .now) (omega arith))
+    sym (length-take-le _ (c .before .before .before .before .before .before .before .before .before .before .before .before .before .before .before .before .before .before .args .room .now) (omega arith))
 
 put-page-requires : tie.Need-put-page-requires
 put-page-requires c κs = here (c .before .before .before .before .before .before .before .before) .servable (served-here (c .before .before .before .before))
@@ -115,7 +115,7 @@ unfolding inquiry
 returns-4 c =
     let w = c .before .before .before .before .before in
     let h = c .before .before .before .before .if3 .left in
-    rw (late (c .before .before .before .before .before .before .before .before .before .before .before), served-here (c .before .before .before .before .before .before .before), ← n-is w, le-ltb _ _ h, cut (w .lesser2 .result) (page (asked (c .before .before .before .before .before .before .before .before .before .before .before))) (c .before .before .before .before .before .before .before .before .before .before .before .before .before .before .before .before .before .before .before .before .args .room .now) (c .before .before .put-page .ensures) (omega (arith, n-is w)) h)
+    rw (late (c .before .before .before .before .before .before .before .before .before .before .before), served-here (c .before .before .before .before .before .before .before), ← n-is w, le-ltb _ _ h, cut (w .lesser2 .result) (page (asked (c .before .before .before .before .before .before .before .before .before .before .before))) (c .before .before .before .before .before .before .before .before .before .before .before .before .before .before .before .before .before .before .before .before .before .args .room .now) (c .before .before .put-page .ensures) (omega (arith, n-is w)) h)
 
 pub inquiry-spec : {M : Type 1} → statement M
 inquiry-spec =

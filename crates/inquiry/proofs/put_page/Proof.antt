@@ -15,7 +15,7 @@ standard-asked-requires c κs = search needs
 
 put-standard-requires : tie.Need-put-standard-requires
 put-standard-requires c κs =
-    c .before .before .before .before .before .before .before .before .before .before .pre .block (rw (← c .before .before .before .packet-drive .ensures, sym (c .before .before .standard-asked .ensures) ∙ c .before .if1 .taken))
+    c .before .before .before .before .before .before .before .before .before .before .before .pre .block (rw (← c .before .before .before .packet-drive .ensures, sym (c .before .before .standard-asked .ensures) ∙ c .before .if1 .taken))
 
 same-length : tie.Need-same-length
 same-length c = search needs
@@ -29,7 +29,7 @@ shared-slice-read-if2 c = search needs
 
 put-requires : tie.Need-put-requires
 put-requires c κs =
-    rw (eq-eqb _ _ (c .before .before .if2 .taken), sym (c .before .before .before .before .before .before .packet-drive .ensures) ∙ c .before .if3 .taken) at (c .before .before .before .before .before .before .before .before .before .before .before .before .before .pre .reply)
+    rw (eq-eqb _ _ (c .before .before .if2 .taken), sym (c .before .before .before .before .before .before .packet-drive .ensures) ∙ c .before .if3 .taken) at (c .before .before .before .before .before .before .before .before .before .before .before .before .before .before .pre .reply)
 
 same-length-2 : tie.Need-same-length-2
 same-length-2 c = search needs
@@ -53,7 +53,7 @@ shared-slice-read-if4 c = search needs
 
 put-serial-requires : tie.Need-put-serial-requires
 put-serial-requires c κs =
-    c .before .before .before .before .before .before .before .before .before .before .before .before .before .before .pre .block (rw (← c .before .before .before .before .before .before .before .packet-drive .ensures, sym (c .before .before .before .before .before .before .standard-asked .ensures) ∙ c .before .before .before .before .before .if1 .left, eq-eqb _ _ (c .before .if4 .taken)))
+    c .before .before .before .before .before .before .before .before .before .before .before .before .before .before .before .pre .block (rw (← c .before .before .before .before .before .before .before .packet-drive .ensures, sym (c .before .before .before .before .before .before .standard-asked .ensures) ∙ c .before .before .before .before .before .if1 .left, eq-eqb _ _ (c .before .if4 .taken)))
 
 same-length-4 : tie.Need-same-length-4
 same-length-4 c = search needs
@@ -67,7 +67,8 @@ shared-slice-read-if5 c = search needs
 
 put-requires-2 : tie.Need-put-requires-2
 put-requires-2 c κs =
-    c .before .before .before .before .before .before .before .before .before .before .before .before .before .before .before .before .pre .block (rw (← c .before .before .before .before .before .before .before .before .before .packet-drive .ensures, sym (c .before .before .before .before .before .before .before .before .standard-asked .ensures) ∙ c .before .before .before .before .before .before .before .if1 .left, ne-eqb _ _ (c .before .before .before .if4 .left), eq-eqb _ _ (c .before .if5 .taken)))
+    let s = c .before .before .before .before .before .before .before .before .before .before .before .before .before .before .before .before .before .pre in
+    (s .block (rw (← c .before .before .before .before .before .before .before .before .before .packet-drive .ensures, sym (c .before .before .before .before .before .before .before .before .standard-asked .ensures) ∙ c .before .before .before .before .before .before .before .if1 .left, ne-eqb _ _ (c .before .before .before .if4 .left), eq-eqb _ _ (c .before .if5 .taken))), s .address)
 
 same-length-5 : tie.Need-same-length-5
 same-length-5 c = search needs
@@ -78,7 +79,7 @@ returns-5 c = rw (← c .before .before .before .before .before .before .before 
 
 put-information-requires : tie.Need-put-information-requires
 put-information-requires c κs =
-    let s = c .before .before .before .before .before .before .before .before .before .before .before .before .before .before .before .before .pre in
+    let s = c .before .before .before .before .before .before .before .before .before .before .before .before .before .before .before .before .before .pre in
     (s .texts, (s .signature, s .whole-or-none))
 
 same-length-6 : tie.Need-same-length-6
