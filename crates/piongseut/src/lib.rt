@@ -4,6 +4,7 @@ use inquiry::Answer;
 use intake::Intake;
 use intake::Offered;
 use intake::Took;
+use page83::Ports;
 use page83::Written;
 use page83_reader::Name;
 use passthrough::Ended;
@@ -35,13 +36,15 @@ pub extern "C" fn piongseut_inquiry(
     signature: &[u8],
     texts: &[u8],
     reply: &[u8],
+    ports: Ports,
+    address: &[u8],
     form: u8,
     room: &mut [u8],
     sense: &mut [u8],
 ) -> Answer
-    ensures { λ r. ⌜ inquiryOutcome r (now (room .exit)) (now (sense .exit)) ≡ inquiryRule (request (now (command .entry)) (now (block .entry)) (now (signature .entry)) (now (texts .entry)) (now (reply .entry))) form (now (room .entry)) (now (sense .entry)) ⌝ }
+    ensures { λ r. ⌜ inquiryOutcome r (now (room .exit)) (now (sense .exit)) ≡ inquiryRule (request (now (command .entry)) (now (block .entry)) (now (signature .entry)) (now (texts .entry)) (now (reply .entry)) ports (now (address .entry))) form (now (room .entry)) (now (sense .entry)) ⌝ }
 {
-    inquiry::inquiry(command, block, signature, texts, reply, form, room, sense)
+    inquiry::inquiry(command, block, signature, texts, reply, ports, address, form, room, sense)
 }
 
 // A record that holds nothing.
@@ -91,12 +94,17 @@ pub extern "C" fn piongseut_complete(
     completed.ended
 }
 
-// Writes the page 83h of a block.
+// Writes the page 83h of a block, with the ports that are chosen.
 #[no_mangle]
-pub extern "C" fn piongseut_write_page83(block: &[u8], room: &mut [u8]) -> Written
-    ensures { λ r. ⌜ writtenOutcome r (now (room .exit)) ≡ writeRule (now (block .entry)) (now (room .entry)) ⌝ }
+pub extern "C" fn piongseut_write_page83(
+    block: &[u8],
+    ports: Ports,
+    address: &[u8],
+    room: &mut [u8],
+) -> Written
+    ensures { λ r. ⌜ writtenOutcome r (now (room .exit)) ≡ writeRule (now (block .entry)) ports (now (address .entry)) (now (room .entry)) ⌝ }
 {
-    page83::write(block, room)
+    page83::write(block, ports, address, room)
 }
 
 // Reads a page 83h.

@@ -13,6 +13,7 @@ use Rattle.intake.specs.Intake.{blockOf}
 use Rattle.intake.specs.Stream.{Held, begin, runs, stream}
 use Rattle.intake.proofs.Stream.{whole-block, no-block-yet, right-end}
 use Rattle.intake.proofs.Laws.{right}
+use Rattle.page83.specs.declared.Ports.{Ports}
 use Rattle.inquiry_checks.specs.Request.{request}
 use Rattle.inquiry.specs.Inquiry.{inquiry}
 use Rattle.roll.specs.Roll as Roll
@@ -21,15 +22,15 @@ use Rattle.received.specs.Received.{inquiryOf, claimsTooMuch, gathered, 
 use Rattle.received.specs.Stream.{Bay, Stores, end, havesOf, storesOf, blockIn, blocksOf}
 
 -- The INQUIRY entry from one stream: with all of its block, and with none before.
-module _ (store : List ℕ) (l : length store ≡ 512) (rs : List (List ℕ)) (command signature texts reply : List ℕ) (form : ℕ) (room sense : List ℕ) where
+module _ (store : List ℕ) (l : length store ≡ 512) (rs : List (List ℕ)) (command signature texts reply : List ℕ) (ports : Ports) (address : List ℕ) (form : ℕ) (room sense : List ℕ) where
   abbrev after : Held
   after = runs (begin store) rs
 
-  pub inquiry-from-a-stream : 512 ≤ length (stream rs) → inquiryOf (after .intake .have) (after .store) command signature texts reply form room sense ≡ inquiry (request command (take 512 (stream rs)) signature texts reply) form room sense
+  pub inquiry-from-a-stream : 512 ≤ length (stream rs) → inquiryOf (after .intake .have) (after .store) command signature texts reply ports address form room sense ≡ inquiry (request command (take 512 (stream rs)) signature texts reply ports address) form room sense
   unfolding inquiryOf
   inquiry-from-a-stream h = rw (right-end store l rs, whole-block store l rs h)
 
-  pub inquiry-before-the-block : length (stream rs) < 512 → inquiryOf (after .intake .have) (after .store) command signature texts reply form room sense ≡ inquiry (request command [] signature texts reply) form room sense
+  pub inquiry-before-the-block : length (stream rs) < 512 → inquiryOf (after .intake .have) (after .store) command signature texts reply ports address form room sense ≡ inquiry (request command [] signature texts reply ports address) form room sense
   unfolding inquiryOf
   inquiry-before-the-block h = rw (right-end store l rs, no-block-yet store l rs h)
 

@@ -8,6 +8,7 @@ use Rattle.rules.specs.First.{Check, _when_, first}
 use Rattle.room.specs.Room.{written}
 use Rattle.checksum.specs.Checksum.{anyDamaged}
 use Rattle.intake.specs.Intake.{wrongIntake, complete, blockOf}
+use Rattle.page83.specs.declared.Ports.{Ports}
 use Rattle.inquiry_checks.specs.Request.{request}
 use Rattle.inquiry.specs.Inquiry.{refused, inquiry}
 use Rattle.inquiry.specs.Inquiry as Inquiry
@@ -17,10 +18,10 @@ use Rattle.roll.specs.Roll as Roll
 use Rattle.roll.specs.Roll.{roll}
 
 -- The INQUIRY entry with an intake's block for its block; an intake that is refused is a lent piece of a wrong size, 1.
-unfoldable pub inquiryOf : ℕ → List ℕ → List ℕ → List ℕ → List ℕ → List ℕ → ℕ → List ℕ → List ℕ → Inquiry.Outcome
-inquiryOf have store command signature texts reply form room sense =
+unfoldable pub inquiryOf : ℕ → List ℕ → List ℕ → List ℕ → List ℕ → List ℕ → Ports → List ℕ → ℕ → List ℕ → List ℕ → Inquiry.Outcome
+inquiryOf have store command signature texts reply ports address form room sense =
     cond (wrongIntake have (length store)) (refused form 1 room sense)
-    (inquiry (request command (blockOf have store) signature texts reply) form room sense)
+    (inquiry (request command (blockOf have store) signature texts reply ports address) form room sense)
 
 -- Some intake claims more than 512 bytes.
 unfoldable pub claimsTooMuch : List ℕ → Bool

@@ -2,6 +2,7 @@
 // specs/Received; each is the one that exists, over the intake's block. specs/Stream and proofs/Stream have what they say of streams.
 use inquiry::Answer;
 use intake::Intake;
+use page83::Ports;
 use roll::Counted;
 ghost use mathlib.Core.Path.{_≡_};
 ghost use mathlib.Core.Bool.{false, cond};
@@ -22,11 +23,13 @@ pub fn inquiry(
     signature: &[u8],
     texts: &[u8],
     reply: &[u8],
+    ports: Ports,
+    address: &[u8],
     form: u8,
     room: &mut [u8],
     sense: &mut [u8],
 ) -> Answer
-    ensures { λ r. ⌜ inquiryOutcome r (now (room .exit)) (now (sense .exit)) ≡ inquiryOf (intake .have) (now (store .entry)) (now (command .entry)) (now (signature .entry)) (now (texts .entry)) (now (reply .entry)) form (now (room .entry)) (now (sense .entry)) ⌝ }
+    ensures { λ r. ⌜ inquiryOutcome r (now (room .exit)) (now (sense .exit)) ≡ inquiryOf (intake .have) (now (store .entry)) (now (command .entry)) (now (signature .entry)) (now (texts .entry)) (now (reply .entry)) ports (now (address .entry)) form (now (room .entry)) (now (sense .entry)) ⌝ }
 {
     if intake::wrong(intake, store.len()) {
         return Answer {
@@ -42,6 +45,8 @@ pub fn inquiry(
         signature,
         texts,
         reply,
+        ports,
+        address,
         form,
         room,
         sense,
