@@ -89,7 +89,16 @@ pub fn inquiry(
 ) -> Answer
     ensures { λ r. ⌜ outcome r (now (room .exit)) (now (sense .exit)) ≡ Inquiry·inquiry (request (now (command .entry)) (now (block .entry)) (now (signature .entry)) (now (texts .entry)) (now (reply .entry)) ports (now (address .entry))) form (now (room .entry)) (now (sense .entry)) ⌝ }
 {
-    let number = inquiry_checks::fault(command, block, signature, texts, reply, ports, address, sense.len());
+    let number = inquiry_checks::fault(
+        command,
+        block,
+        signature,
+        texts,
+        reply,
+        ports,
+        address,
+        sense.len(),
+    );
     if number != 0 {
         return refuse(sense, form, number);
     }
@@ -108,7 +117,16 @@ pub fn inquiry(
     if room.len() < n {
         return refuse(sense, form, 8);
     }
-    put_page(&mut room[..n], command, block, signature, texts, reply, ports, address);
+    put_page(
+        &mut room[..n],
+        command,
+        block,
+        signature,
+        texts,
+        reply,
+        ports,
+        address,
+    );
     Answer {
         number: 0,
         status: sense::GOOD,

@@ -1,35 +1,100 @@
--- The reader of page 83h: the name that went in, of one complete page and of nothing else (RULES 6.4).
-use mathlib.Core.Bool.{Bool, true, false, cond, _&&_, not}
+-- The reader of page 83h: the name and the ports that went in, of one complete page and of nothing else (RULES 6.4).
+use mathlib.Core.Bool.{Bool, true, false, cond, _&&_, _||_, not}
 use mathlib.Core.List.{List, [], _∷_}
-use Prim.Native.Nat.{ℕ}
-use lib.Dec.{eqb}
-use lib.ListN.{length, take, drop, replicate}
+use Prim.Native.Nat.{ℕ, _+_, _*_, _-_}
+use lib.Dec.{eqb, leb}
+use lib.ListN.{length, getD, take, drop, replicate}
+use Rattle.rules.specs.Bits.{flag}
 use Rattle.room.specs.Room.{written}
 use Rattle.identify.specs.Drive.{someBit, equal}
+use Rattle.page83.specs.declared.Ports.{Ports}
+use Rattle.page83.specs.Ports.{relativeHead, sasPort, isPort}
+use Rattle.page83.specs.Page83.{head, nameDescriptor, textDescriptor}
 use Rattle.page83_reader.specs.declared.Name.{Name}
-use Rattle.page83.specs.Page83.{namePage, textPage}
 
 -- No byte is zero.
 unfoldable pub noZero : List ℕ → Bool
 noZero [] = true
 noZero (byte ∷ bytes) = not (eqb byte 0) && noZero bytes
 
--- A page of 16 bytes: the head of a name, and a name that is not zero.
-abbrev pub namesDrive : List ℕ → Bool
-namesDrive page = eqb (length page) 16 && equal (take 8 page) (namePage []) && someBit (drop 8 page)
+-- Page code 83h, and a length field that tells the bytes behind it.
+abbrev pub headed : List ℕ → Bool
+headed page = equal (take 4 page) (head (length page - 4))
 
--- A page of 76 bytes: the head of the texts, and texts in which no zero byte is left.
+-- Up to byte 16: the head of a name, and a name that is not zero.
+abbrev pub namesDrive : List ℕ → Bool
+namesDrive page = leb 16 (length page) && equal (take 4 (drop 4 page)) (nameDescriptor []) && someBit (take 8 (drop 8 page))
+
+-- Up to byte 76: the head of texts, and texts in which no zero byte is left.
 abbrev pub tellsTexts : List ℕ → Bool
-tellsTexts page = eqb (length page) 76 && equal (take 16 page) (textPage [] []) && noZero (drop 16 page)
+tellsTexts page = leb 76 (length page) && equal (take 12 (drop 4 page)) (textDescriptor [] []) && noZero (take 60 (drop 16 page))
+
+-- The number of the relative target port that bytes start with, 1 or 2; 0 where they start with none.
+abbrev pub twoBytes : List ℕ → ℕ
+twoBytes bytes = 0x100 * getD bytes 6 0 + getD bytes 7 0
+
+unfoldable pub relativeIn : List ℕ → ℕ
+relativeIn bytes = cond (equal (take 6 bytes) relativeHead && isPort (twoBytes bytes)) (twoBytes bytes) 0
+
+-- What follows it: all bytes where there is none.
+unfoldable pub behindRelative : List ℕ → List ℕ
+behindRelative bytes = cond (eqb (relativeIn bytes) 0) bytes (drop 8 bytes)
+
+-- A SAS target port and nothing after it.
+unfoldable pub tellsSas : List ℕ → Bool
+tellsSas bytes = eqb (length bytes) 12 && equal (take 4 bytes) (sasPort [])
+
+-- What may follow the drive's descriptor: a relative target port or none, then a SAS target port or none, and nothing else.
+abbrev pub sasOrNothing : List ℕ → Bool
+sasOrNothing bytes = eqb (length bytes) 0 || tellsSas bytes
+
+unfoldable pub tellsPorts : List ℕ → Bool
+tellsPorts bytes = sasOrNothing (behindRelative bytes)
+
+-- The ports that it tells, and the address of the SAS one; zeros for what is not there.
+abbrev pub portsOf : ℕ → Bool → Ports
+portsOf relative sas = record { chosen = flag (not (eqb relative 0)) + 2 * flag sas; relative = relative }
+
+unfoldable pub portsIn : List ℕ → Ports
+portsIn bytes = portsOf (relativeIn bytes) (not (eqb (length (behindRelative bytes)) 0))
+
+abbrev pub addressOf : List ℕ → List ℕ
+addressOf sas = written (replicate 8 0x00) 0 (take 8 (drop 4 sas))
+
+unfoldable pub addressIn : List ℕ → List ℕ
+addressIn bytes = addressOf (behindRelative bytes)
 
 -- The name's bytes, at the front of 60 that are zero behind them.
 abbrev pub inSixty : List ℕ → List ℕ
 inSixty bytes = written (replicate 60 0x00) 0 bytes
 
--- Form 1 is the world wide name, form 2 the model (40 bytes) and the serial number (20). A page that the writer cannot make is
--- refusal 16, form 0 and a zero name.
+-- A page that the writer cannot make is refusal 16, and all else is zero.
+abbrev pub refused : Name
+refused =
+    record {
+      number = 16;
+      form = 0;
+      name = inSixty [];
+      ports = record { chosen = 0; relative = 0 };
+      address = replicate 8 0x00;
+    }
+
+-- A name that stands in the page from one place up to another, and the ports behind it.
+unfoldable pub told : ℕ → ℕ → ℕ → List ℕ → Name
+told form from to page =
+    cond (tellsPorts (drop to page))
+    (record {
+      number = 0;
+      form = form;
+      name = inSixty (take (to - from) (drop from page));
+      ports = portsIn (drop to page);
+      address = addressIn (drop to page);
+    })
+    refused
+
+-- Form 1 is the world wide name, form 2 the model (40 bytes) and the serial number (20).
 unfoldable pub read : List ℕ → Name
 read page =
-    cond (namesDrive page) (record { number = 0; form = 1; name = inSixty (drop 8 page) })
-    (cond (tellsTexts page) (record { number = 0; form = 2; name = inSixty (drop 16 page) })
-    (record { number = 16; form = 0; name = inSixty [] }))
+    cond (headed page && namesDrive page) (told 1 8 16 page)
+    (cond (headed page && tellsTexts page) (told 2 16 76 page)
+    refused)

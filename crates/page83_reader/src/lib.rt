@@ -1,19 +1,26 @@
-// Page 83h reader: reads a page 83h, and gives back the name that went in. The rule stands in specs/Reader.
+// Page 83h reader: reads a page 83h, and gives back the name and the ports that went in. The rule stands in specs/Reader.
 use page83::NAME_HEAD;
+use page83::Ports;
 use page83::TEXT_HEAD;
+use page83::port;
+use page83::port::RELATIVE_HEAD;
+use page83::port::SAS_HEAD;
 ghost use mathlib.Core.Path.{_≡_};
 ghost use mathlib.Core.Bool.{Bool};
 ghost use mathlib.Core.List.{List};
 ghost use Prim.Native.Nat.{_≤_};
 ghost use lib.ListN.{length, drop};
-ghost use Rattle.page83_reader.specs.Reader.{noZero, namesDrive, tellsTexts, inSixty, read as Reader·read};
+ghost use Rattle.page83_reader.specs.Reader.{noZero, headed as Reader·headed, namesDrive, tellsTexts, relativeIn, behindRelative, sasOrNothing, portsOf, addressOf, inSixty, refused as Reader·refused, told as Reader·told, read as Reader·read};
 
-// What the reader gives: 0 or 16, the form (1 the world wide name, 2 model and serial number, 0 refused), and the name's bytes.
+// What the reader gives: 0 or 16, the form (1 the world wide name, 2 model and serial number, 0 refused), the name's bytes, the ports
+// behind it and the address of the SAS one.
 #[repr(C)]
 pub struct Name {
     pub number: u8,
     pub form: u8,
     pub name: [u8; 60],
+    pub ports: Ports,
+    pub address: [u8; 8],
 }
 
 fn no_zero(bytes: &[u8]) -> bool
@@ -29,15 +36,28 @@ fn no_zero(bytes: &[u8]) -> bool
     true
 }
 
+// Whether the head is that of a page 83h of this size.
+fn headed(page: &[u8]) -> bool
+    ensures { λ r. ⌜ r ≡ Reader·headed (now (page .entry)) ⌝ }
+{
+    if page.len() < 4 {
+        return false;
+    }
+    if page.len() - 4 != rules::byte(page, 3) as usize {
+        return false;
+    }
+    (page[0] == 0x00) & (page[1] == 0x83) & (page[2] == 0x00)
+}
+
 // Whether a page names a drive by its world wide name.
 fn names_drive(page: &[u8]) -> bool
     ensures { λ r. ⌜ r ≡ namesDrive (now (page .entry)) ⌝ }
 {
-    if page.len() != 16 {
+    if page.len() < 16 {
         return false;
     }
-    if identify::same_bytes(&page[..8], &NAME_HEAD) {
-        return identify::some_bit(&page[8..]);
+    if identify::same_bytes(&page[4..8], &NAME_HEAD) {
+        return identify::some_bit(&page[8..16]);
     }
     false
 }
@@ -46,13 +66,70 @@ fn names_drive(page: &[u8]) -> bool
 fn tells_texts(page: &[u8]) -> bool
     ensures { λ r. ⌜ r ≡ tellsTexts (now (page .entry)) ⌝ }
 {
-    if page.len() != 76 {
+    if page.len() < 76 {
         return false;
     }
-    if identify::same_bytes(&page[..16], &TEXT_HEAD) {
-        return no_zero(&page[16..]);
+    if identify::same_bytes(&page[4..16], &TEXT_HEAD) {
+        return no_zero(&page[16..76]);
     }
     false
+}
+
+// The number of the relative target port that bytes start with, and 0 where they start with none.
+fn relative_in(bytes: &[u8]) -> u16
+    ensures { λ r. ⌜ r ≡ relativeIn (now (bytes .entry)) ⌝ }
+{
+    if identify::same_bytes(rules::part(bytes, 0, 6), &RELATIVE_HEAD) {
+        let number = rules::pair(rules::byte(bytes, 6), rules::byte(bytes, 7));
+        if port::is_port(number) {
+            return number;
+        }
+    }
+    0
+}
+
+// What follows it: all bytes where there is none.
+fn behind_relative(bytes: &[u8], relative: u16) -> &[u8]
+    requires { ⌜ relative ≡ relativeIn (now bytes) ⌝ }
+    ensures { λ r. ⌜ now r ≡ behindRelative (now (bytes .entry)) ⌝ }
+{
+    if relative == 0 {
+        return bytes;
+    }
+    &bytes[8..]
+}
+
+// Whether bytes are a SAS target port, or none.
+fn sas_or_nothing(bytes: &[u8]) -> bool
+    ensures { λ r. ⌜ r ≡ sasOrNothing (now (bytes .entry)) ⌝ }
+{
+    if bytes.len() == 0 {
+        return true;
+    }
+    if bytes.len() != 12 {
+        return false;
+    }
+    identify::same_bytes(&bytes[..4], &SAS_HEAD)
+}
+
+// The ports, by the number of the relative one, or 0, and whether there is a SAS one.
+fn ports_of(relative: u16, sas: bool) -> Ports
+    ensures { λ r. ⌜ r ≡ portsOf relative sas ⌝ }
+{
+    let chosen = rules::flag(relative != 0) + 2 * rules::flag(sas);
+    Ports {
+        chosen: chosen as u16,
+        relative,
+    }
+}
+
+// The address in a SAS target port, and zeros where there is none.
+fn address_of(sas: &[u8]) -> [u8; 8]
+    ensures { λ r. ⌜ r ≡ addressOf (now (sas .entry)) ⌝ }
+{
+    let mut address = [0x00u8; 8];
+    room::put(&mut address, 0, rules::part(sas, 4, 12));
+    address
 }
 
 // The bytes at the front of 60 that are zero behind them.
@@ -64,29 +141,51 @@ fn in_sixty(bytes: &[u8]) -> [u8; 60]
     name
 }
 
-// The name that a page tells.
-pub fn read(page: &[u8]) -> Name
-    ensures { λ r. ⌜ r ≡ Reader·read (now (page .entry)) ⌝ }
+// What comes of a page that the writer cannot make.
+fn refused() -> Name
+    ensures { λ r. ⌜ r ≡ Reader·refused ⌝ }
 {
-    if names_drive(page) {
-        let name = in_sixty(rules::part(page, 8, 16));
-        return Name {
-            number: 0,
-            form: 1,
-            name,
-        };
-    }
-    if tells_texts(page) {
-        let name = in_sixty(rules::part(page, 16, 76));
-        return Name {
-            number: 0,
-            form: 2,
-            name,
-        };
-    }
     Name {
         number: 16,
         form: 0,
-        name: in_sixty(&page[..0]),
+        name: [0x00u8; 60],
+        ports: page83::no_ports(),
+        address: [0x00u8; 8],
     }
+}
+
+// The name that stands from one place up to another, and the ports behind it.
+fn told(form: u8, from: usize, to: usize, page: &[u8]) -> Name
+    requires { ⌜ (from ≤ to) × (to ≤ length (now page)) ⌝ }
+    ensures { λ r. ⌜ r ≡ Reader·told form from to (now (page .entry)) ⌝ }
+{
+    let behind = &page[to..];
+    let relative = relative_in(behind);
+    let sas = behind_relative(behind, relative);
+    if !sas_or_nothing(sas) {
+        return refused();
+    }
+    Name {
+        number: 0,
+        form,
+        name: in_sixty(&page[from..to]),
+        ports: ports_of(relative, sas.len() != 0),
+        address: address_of(sas),
+    }
+}
+
+// The name that a page tells, and its ports.
+pub fn read(page: &[u8]) -> Name
+    ensures { λ r. ⌜ r ≡ Reader·read (now (page .entry)) ⌝ }
+{
+    if !headed(page) {
+        return refused();
+    }
+    if names_drive(page) {
+        return told(1, 8, 16, page);
+    }
+    if tells_texts(page) {
+        return told(2, 16, 76, page);
+    }
+    refused()
 }

@@ -44,7 +44,18 @@ pub extern "C" fn piongseut_inquiry(
 ) -> Answer
     ensures { λ r. ⌜ inquiryOutcome r (now (room .exit)) (now (sense .exit)) ≡ inquiryRule (request (now (command .entry)) (now (block .entry)) (now (signature .entry)) (now (texts .entry)) (now (reply .entry)) ports (now (address .entry))) form (now (room .entry)) (now (sense .entry)) ⌝ }
 {
-    inquiry::inquiry(command, block, signature, texts, reply, ports, address, form, room, sense)
+    inquiry::inquiry(
+        command,
+        block,
+        signature,
+        texts,
+        reply,
+        ports,
+        address,
+        form,
+        room,
+        sense,
+    )
 }
 
 // A record that holds nothing.
