@@ -10,6 +10,8 @@ use borrow.Author.Tests.{eq-eqb, le-ltb, leb-true, leb-false}
 use Rattle.checksum.specs.Checksum.{sumOf, damagedBy, damaged, anyDamaged}
 use Rattle.checksum.proofs.Laws.{damaged-at, damaged-size}
 use Rattle.sense.specs.Refusal.{rowOf, refusedSense, noStatus}
+use Rattle.page83.specs.declared.Ports.{Ports}
+use Rattle.page83.specs.Ports.{wrongAddress}
 use Rattle.page83.specs.Page83 as Page83
 use Rattle.page83.specs.Page83.{write}
 use Rattle.inquiry_checks.specs.Request.{Request, request}
@@ -27,13 +29,13 @@ use Rattle.received.specs.Received.{inquiryOf, gatherOf, rollOf, gathered}
 use Rattle.tally.specs.Census.{refusalOf, feed}
 use Rattle.demands.specs.Promises.{SomeDamaged, RollSized, DamagedIsRefused, CarriedSum}
 
-of-inquiry : (q : Request) (form : ℕ) (room sense : List ℕ) → InquiryChecks.wrongSize (q .block) (q .signature) (q .texts) (length sense) ≡ false → damaged (q .block) ≡ true → inquiry q form room sense ≡ Inquiry.outcome (record { number = 18; status = noStatus; shown = 1; count = 0 }) room sense
+of-inquiry : (q : Request) (form : ℕ) (room sense : List ℕ) → InquiryChecks.wrongSize (q .block) (q .signature) (q .texts) (q .ports) (q .address) (length sense) ≡ false → damaged (q .block) ≡ true → inquiry q form room sense ≡ Inquiry.outcome (record { number = 18; status = noStatus; shown = 1; count = 0 }) room sense
 unfolding inquiry InquiryChecks.refusalOf refusedSense rowOf
 of-inquiry q form room sense s d = rw (s, d)
 
-of-write : (block room : List ℕ) → damaged block ≡ true → write block room ≡ Page83.outcome (record { number = 18; count = 0 }) room
+of-write : (block : List ℕ) (ports : Ports) (address room : List ℕ) → wrongAddress ports address ≡ false → damaged block ≡ true → write block ports address room ≡ Page83.outcome (record { number = 18; count = 0 }) room
 unfolding write Page83.refusalOf
-of-write block room d = rw (eq-eqb _ _ (damaged-size block d), d)
+of-write block ports address room a d = rw (eq-eqb _ _ (damaged-size block d), a, d)
 
 some-damaged : (bytes : List ℕ) → SomeDamaged bytes → anyDamaged (blocks bytes) ≡ true
 some-damaged bytes w =
@@ -52,7 +54,7 @@ damaged-is-refused =
       of-write = of-write;
       of-roll = λ bytes room s w. rw (roll-refusal bytes (length room) s w);
       of-gather = λ haves stores room right w. rw (right, some-damaged (gathered haves stores) w);
-      of-inquiry-from-intake = λ have store command signature texts reply form room sense right s d. rw right (of-inquiry (request command (blockOf have store) signature texts reply) form room sense s d);
+      of-inquiry-from-intake = λ have store command signature texts reply ports address form room sense right s d. rw right (of-inquiry (request command (blockOf have store) signature texts reply ports address) form room sense s d);
       of-roll-of-intakes = λ haves stores room rows right s w. rw (right, roll-refusal (gathered haves stores) (length rows) s w);
       of-feed = λ c block fit d. rw (eq-eqb _ _ (damaged-size block d), fit, d);
     }

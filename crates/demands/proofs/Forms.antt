@@ -15,6 +15,7 @@ use Rattle.sense.specs.Helpers.{Roomy}
 use Rattle.sense.proofs.Sense.{roomy-unless}
 use Rattle.sense.proofs.Table.{checks, writes, writes-nothing, busy-or-none}
 use Rattle.sense.proofs.Carried.{forms-agree, written-agree}
+use Rattle.page83.specs.declared.Ports.{Ports}
 use Rattle.inquiry_checks.specs.Request.{Request, request, isPacket, passesThrough}
 use Rattle.inquiry_checks.specs.Checks as InquiryChecks
 use Rattle.inquiry_checks.proofs.Laws as InquiryLaws
@@ -74,7 +75,7 @@ module _ (form other : ℕ) (f : isFixed form ≡ true) (o : isFixed other ≡ f
       r = InquiryChecks.refusalOf q (length lent) (length room)
 
       enough : Roomy r (length room)
-      enough = roomy-unless (InquiryChecks.wrongSize (q .block) (q .signature) (q .texts) (length room)) _ (λ w. InquiryLaws.sized (q .block) (q .signature) (q .texts) (length room) w .enough) refl
+      enough = roomy-unless (InquiryChecks.wrongSize (q .block) (q .signature) (q .texts) (q .ports) (q .address) (length room)) _ (λ w. InquiryLaws.sized (q .block) (q .signature) (q .texts) (q .ports) (q .address) (length room) w .enough) refl
 
       either : ℕ → Bool → Bool → Inquiry.Outcome
       either g t through = cond t (cond through (Inquiry.passed q lent room) (Inquiry.served q lent room)) (Inquiry.refused g r lent room)
@@ -129,16 +130,16 @@ module _ (form other : ℕ) (f : isFixed form ≡ true) (o : isFixed other ≡ f
       by true false false e = quiet good good-untold
       by false error checked e = refused-alike r enough
 
-  of-inquiry-from-intake : (have : ℕ) (store command signature texts reply lent : List ℕ) → ToldAlike (inquiryOf have store command signature texts reply form lent room .answer .status) room (inquiryOf have store command signature texts reply form lent room .sense) (inquiryOf have store command signature texts reply other lent room .sense)
+  of-inquiry-from-intake : (have : ℕ) (store command signature texts reply : List ℕ) (ports : Ports) (address lent : List ℕ) → ToldAlike (inquiryOf have store command signature texts reply ports address form lent room .answer .status) room (inquiryOf have store command signature texts reply ports address form lent room .sense) (inquiryOf have store command signature texts reply ports address other lent room .sense)
   unfolding inquiryOf rowOf refusedSense
-  of-inquiry-from-intake have store command signature texts reply lent = by (wrongIntake have (length store))
+  of-inquiry-from-intake have store command signature texts reply ports address lent = by (wrongIntake have (length store))
     where
       either : ℕ → Bool → Inquiry.Outcome
-      either g t = cond t (Inquiry.refused g 1 lent room) (inquiry (request command (blockOf have store) signature texts reply) g lent room)
+      either g t = cond t (Inquiry.refused g 1 lent room) (inquiry (request command (blockOf have store) signature texts reply ports address) g lent room)
 
       by : (t : Bool) → ToldAlike (either form t .answer .status) room (either form t .sense) (either other t .sense)
       by true = quiet noStatus none-untold
-      by false = of-inquiry (request command (blockOf have store) signature texts reply) lent
+      by false = of-inquiry (request command (blockOf have store) signature texts reply ports address) lent
 
 pub forms-agree-everywhere : FormsAgree
 forms-agree-everywhere =
@@ -147,7 +148,7 @@ forms-agree-everywhere =
       of-inquiry = λ q form other room sense f o. of-inquiry form other f o sense q room;
       of-submit = λ p command registers declared form other sense f o. of-submit form other f o sense p command registers declared;
       of-complete = λ p registers form other sense f o. of-complete form other f o sense p registers;
-      of-inquiry-from-intake = λ have store command signature texts reply form other room sense f o. of-inquiry-from-intake form other f o sense have store command signature texts reply room;
+      of-inquiry-from-intake = λ have store command signature texts reply ports address form other room sense f o. of-inquiry-from-intake form other f o sense have store command signature texts reply ports address room;
     }
 
 -- All but the sense data, by what was decided.
@@ -178,9 +179,9 @@ module _ (p : Pending) (registers : List ℕ) (form other : ℕ) (sense : List �
   of-complete-rest true = refl
   of-complete-rest false = refl
 
-module _ (have : ℕ) (store command signature texts reply : List ℕ) (form other : ℕ) (room sense : List ℕ) where
+module _ (have : ℕ) (store command signature texts reply : List ℕ) (ports : Ports) (address : List ℕ) (form other : ℕ) (room sense : List ℕ) where
   abbrev asked : Request
-  asked = request command (blockOf have store) signature texts reply
+  asked = request command (blockOf have store) signature texts reply ports address
 
   abbrev intakeBy : ℕ → Bool → Inquiry.Outcome
   intakeBy g t = cond t (Inquiry.refused g 1 room sense) (inquiry asked g room sense)
@@ -197,7 +198,7 @@ form-changes-only-sense =
       of-inquiry = λ q form other room sense. of-inquiry-rest q form other room sense (eqb (InquiryChecks.refusalOf q (length room) (length sense)) 0) (passesThrough (isPacket q) (q .command));
       of-submit = λ p command registers declared form other sense. of-submit-rest p command registers declared form other sense (eqb (Submit.refusalOf p command registers declared (length sense)) 0) (eqb (protocol command) 15);
       of-complete = λ p registers form other sense. of-complete-rest p registers form other sense (eqb (Complete.refusalOf p registers (length sense)) 0);
-      of-inquiry-from-intake = λ have store command signature texts reply form other room sense. of-intake-rest have store command signature texts reply form other room sense (wrongIntake have (length store));
+      of-inquiry-from-intake = λ have store command signature texts reply ports address form other room sense. of-intake-rest have store command signature texts reply ports address form other room sense (wrongIntake have (length store));
     }
 
 -- The entries know of a form by the sense data alone.
@@ -210,5 +211,5 @@ usual-form =
       of-inquiry = λ q room sense. refl;
       of-submit = λ p command registers declared sense. refl;
       of-complete = λ p registers sense. refl;
-      of-inquiry-from-intake = λ have store command signature texts reply room sense. refl;
+      of-inquiry-from-intake = λ have store command signature texts reply ports address room sense. refl;
     }

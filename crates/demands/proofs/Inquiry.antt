@@ -10,9 +10,7 @@ use lib.ListN.{length, getD, take, drop, set, length-take, length-set}
 use lib.Seq.{take-append-le, getD-set-same, getD-set-other}
 use borrow.Author.Tests.{eq-eqb, ne-eqb, eqb-false, le-ltb}
 use Rattle.laws.proofs.Laws.{cut-twice, cut-to-more, cut-to-the-size}
-use Rattle.identify.specs.Drive.{carriesName}
 use Rattle.page83.specs.Page83.{page83}
-use Rattle.page83.proofs.Laws.{page-sizes}
 use Rattle.inquiry_fields.specs.Fields.{evpd, pageCode, allocation}
 use Rattle.inquiry_checks.specs.Request.{Request, passesThrough, isPacket}
 use Rattle.inquiry_checks.specs.Asked.{page, toWrite}
@@ -22,7 +20,7 @@ use Rattle.inquiry_checks.proofs.Laws.{granted, accepted-early}
 use Rattle.inquiry.specs.Inquiry.{Outcome, refused, passed, served, inquiry}
 use Rattle.demands.specs.Promises.{WithinAllocation, withAllocation, asking, shown, CutAgain, AsksItsName, PagesOfInquiry}
 use Rattle.demands.proofs.Refusals.{not-refused}
-use Rattle.demands.proofs.Page83.{same-drive-same-page, same-page}
+use Rattle.demands.proofs.Page83.{tells-apart}
 
 pub within-allocation : WithinAllocation
 unfolding inquiry
@@ -102,24 +100,28 @@ cut-again q a b form other-form room sense other-room other-sense le lt ea eb =
 
 -- Asked for the complete page 83h, it shows the page.
 module _ (q : Request) (form : ℕ) (room sense : List ℕ) (a : AsksItsName q room sense) where
+  abbrev whole-page : List ℕ
+  whole-page = page83 (q .block) (q .ports) (q .address)
+
   through : passesThrough (isPacket q) (q .command) ≡ false
   through = rw (a .disk)
 
-  page-is : page q ≡ page83 (q .block)
+  page-is : page q ≡ whole-page
   unfolding page
   page-is = rw (a .disk, a .page-asked, a .page-83h)
 
   accepts : refusal q form room sense ≡ 0
   unfolding refusalOf
   accepts =
-      let fits : toWrite q ≤ length room = omega (arith, ap length page-is, a .block .enough) in
+      let fits : toWrite q ≤ length room = omega (arith, ap length page-is, a .writable .enough) in
       rw (
         le-ltb (length room) (toWrite q) fits,
-        a .block .whole,
+        a .writable .whole,
         a .signature,
         a .texts,
+        a .writable .right-address,
         le-ltb (length sense) 22 (a .sense-room),
-        a .block .passes,
+        a .writable .passes,
         ne-eqb (length (q .command)) 0 (λ e. absurd (omega (arith, e, a .whole-command))),
         a .opcode,
         le-ltb (length (q .command)) 6 (a .whole-command),
@@ -128,31 +130,20 @@ module _ (q : Request) (form : ℕ) (room sense : List ℕ) (a : AsksItsName q r
         a .no-cmddt,
         a .page-asked,
         a .page-83h,
+        a .writable .right-port,
       )
 
   number-zero : inquiry q form room sense .answer .number ≡ 0
   number-zero = rw (inquiry-is q form room sense accepts, through)
 
-  short-enough : length (page83 (q .block)) ≤ allocation (q .command)
-  short-enough = rw (page-sizes (q .block) (a .block .whole)) (by (carriesName (q .block)))
-    where
-      by : (t : Bool) → cond t 16 76 ≤ allocation (q .command)
-      by true = omega (arith, a .complete)
-      by false = a .complete
-
-  shown-is : shown q (inquiry q form room sense) ≡ page83 (q .block)
+  shown-is : shown q (inquiry q form room sense) ≡ whole-page
   shown-is =
       shows q form room sense accepts
-      ∙ rw (through, page-is) (cut-to-more (allocation (q .command)) (page83 (q .block)) short-enough)
+      ∙ rw (through, page-is) (cut-to-more (allocation (q .command)) whole-page (a .complete))
 
 pub pages-of-inquiry : PagesOfInquiry
-pages-of-inquiry q r form other-form room sense other-room other-sense a b =
-    let pa = shown-is q form room sense a in
-    let pb = shown-is r other-form other-room other-sense b in (
-      number-zero q form room sense a,
-      number-zero r other-form other-room other-sense b,
-      (
-        λ e. same-page (q .block) (r .block) (a .block .whole) (b .block .whole) (sym pa ∙ e ∙ pb),
-        λ e. pa ∙ same-drive-same-page (q .block) (r .block) e ∙ sym pb,
-      ),
-    )
+pages-of-inquiry q r form other-form room sense other-room other-sense a b = (
+  number-zero q form room sense a,
+  number-zero r other-form other-room other-sense b,
+  rw (shown-is q form room sense a, shown-is r other-form other-room other-sense b) (tells-apart (a .writable) (b .writable)),
+)

@@ -24,13 +24,13 @@ one-outcome =
       of-served = λ reply room shown count. settled _;
       of-submit = λ p command registers declared form sense. settled _;
       of-complete = λ p registers form sense. settled _;
-      of-write = λ block room. settled _;
+      of-write = λ block ports address room. settled _;
       of-read = λ page. settled _;
       of-roll = λ bytes room. settled _;
       of-take = λ held store run. settled _;
       of-block = λ have store. settled _;
       of-gather = λ haves stores room. settled _;
-      of-inquiry-from-intake = λ have store command signature texts reply form room sense. settled _;
+      of-inquiry-from-intake = λ have store command signature texts reply ports address form room sense. settled _;
       of-roll-of-intakes = λ haves stores room rows. settled _;
       of-feed = λ c block. settled _;
     }

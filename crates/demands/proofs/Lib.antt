@@ -4,6 +4,7 @@ pub mod Soundings
 pub mod Inquiry
 pub mod Order
 pub mod History
+pub mod Ports
 pub mod Page83
 pub mod Roll
 pub mod Stream

@@ -1,16 +1,19 @@
 -- Demand 1 of refusals: an entry's outcome is what was accepted, which carries 0, or what its refusal's number alone decides.
 use mathlib.Core.Path.{_≡_, refl, sym, ap, _∙_}
-use mathlib.Core.Bool.{Bool, true, false, cond, not}
+use mathlib.Core.Bool.{Bool, true, false, cond, _&&_, not}
 use mathlib.Core.List.{List, [], _∷_}
 use Prim.Native.Nat.{ℕ}
 use native.Mathlib.Omega.{arith}
 use lib.Dec.{eqb, ltb}
-use lib.ListN.{length}
+use lib.ListN.{length, drop}
 use borrow.Author.Tests.{eq-eqb, eqb-true}
 use Rattle.rules.specs.First.{_when_, first}
+use Rattle.page83.specs.declared.Ports.{Ports}
 use Rattle.page83.specs.Page83 as Page83
 use Rattle.page83.specs.Page83.{write}
-use Rattle.page83_reader.specs.Reader.{namesDrive, tellsTexts, inSixty, read}
+use Rattle.page83_reader.specs.declared.Name.{Name}
+use Rattle.page83_reader.specs.Reader as Reader
+use Rattle.page83_reader.specs.Reader.{headed, namesDrive, tellsTexts, tellsPorts, told, read}
 use Rattle.inquiry_checks.specs.Request.{Request, request, isPacket, passesThrough}
 use Rattle.inquiry_checks.specs.Checks as InquiryChecks
 use Rattle.inquiry.specs.Inquiry as Inquiry
@@ -80,20 +83,32 @@ of-complete p registers form sense h =
     let r = Complete.refusalOf p registers (length sense) in
     by-number (λ (o : Complete.Outcome). o .completed .ended .number) (λ n. Complete.refused p form n sense) _ r (eqb r 0) refl refl h
 
-of-write : (block room : List ℕ) → Refused (write block room .written .number) → write block room ≡ Page83.outcome (record { number = write block room .written .number; count = 0 }) room
+of-write : (block : List ℕ) (ports : Ports) (address room : List ℕ) → Refused (write block ports address room .written .number) → write block ports address room ≡ Page83.outcome (record { number = write block ports address room .written .number; count = 0 }) room
 unfolding write
-of-write block room h =
-    let r = Page83.refusalOf block (length room) in
+of-write block ports address room h =
+    let r = Page83.refusalOf block ports address (length room) in
     by-number (λ (o : Page83.Outcome). o .written .number) (λ n. Page83.outcome (record { number = n; count = 0 }) room) _ r (eqb r 0) refl refl h
 
-of-read : (page : List ℕ) → Refused (read page .number) → read page ≡ record { number = 16; form = 0; name = inSixty [] }
-unfolding read
-of-read page h = by (namesDrive page) (tellsTexts page) refl refl
+-- What the reader tells is accepted, or refused as every refused page is.
+told-or-refused : (form from to : ℕ) (page : List ℕ) → Refused (told form from to page .number) → told form from to page ≡ Reader.refused
+unfolding told
+told-or-refused form from to page h = by (tellsPorts (drop to page)) refl
   where
-    by : (p q : Bool) → namesDrive page ≡ p → tellsTexts page ≡ q → read page ≡ record { number = 16; form = 0; name = inSixty [] }
-    by true q e f = absurd (h (rw e))
-    by false true e f = absurd (h (rw (e, f)))
-    by false false e f = rw (e, f)
+    by : (t : Bool) → tellsPorts (drop to page) ≡ t → told form from to page ≡ Reader.refused
+    by true e = absurd (h (rw e))
+    by false e = rw e
+
+of-read : (page : List ℕ) → Refused (read page .number) → read page ≡ Reader.refused
+unfolding read
+of-read page h = by (headed page && namesDrive page) (headed page && tellsTexts page) h
+  where
+    either : Bool → Bool → Name
+    either p q = cond p (told 1 8 16 page) (cond q (told 2 16 76 page) Reader.refused)
+
+    by : (p q : Bool) → Refused (either p q .number) → either p q ≡ Reader.refused
+    by true q h = told-or-refused 1 8 16 page h
+    by false true h = told-or-refused 2 16 76 page h
+    by false false h = refl
 
 of-roll : (bytes room : List ℕ) → Refused (roll bytes room .counted .number) → roll bytes room ≡ Roll.outcome (record { number = roll bytes room .counted .number; blocks = 0; drives = 0 }) room
 unfolding roll
@@ -118,12 +133,12 @@ of-gather haves stores room h =
     let r = Received.gatherRefusal haves stores (length room) in
     by-number (λ (o : Received.GatherOutcome). o .gathered .number) (λ n. Received.gatherOutcome (Received.given n 0) room) _ r (eqb r 0) refl refl h
 
-of-inquiry-from-intake : (have : ℕ) (store command signature texts reply : List ℕ) (form : ℕ) (room sense : List ℕ) → Refused (inquiryOf have store command signature texts reply form room sense .answer .number) → inquiryOf have store command signature texts reply form room sense ≡ Inquiry.refused form (inquiryOf have store command signature texts reply form room sense .answer .number) room sense
+of-inquiry-from-intake : (have : ℕ) (store command signature texts reply : List ℕ) (ports : Ports) (address : List ℕ) (form : ℕ) (room sense : List ℕ) → Refused (inquiryOf have store command signature texts reply ports address form room sense .answer .number) → inquiryOf have store command signature texts reply ports address form room sense ≡ Inquiry.refused form (inquiryOf have store command signature texts reply ports address form room sense .answer .number) room sense
 unfolding inquiryOf
-of-inquiry-from-intake have store command signature texts reply form room sense h = by (wrongIntake have (length store)) h
+of-inquiry-from-intake have store command signature texts reply ports address form room sense h = by (wrongIntake have (length store)) h
   where
     q : Request
-    q = request command (blockOf have store) signature texts reply
+    q = request command (blockOf have store) signature texts reply ports address
 
     by : (t : Bool) → Refused (cond t (Inquiry.refused form 1 room sense) (inquiry q form room sense) .answer .number) → cond t (Inquiry.refused form 1 room sense) (inquiry q form room sense) ≡ Inquiry.refused form (cond t (Inquiry.refused form 1 room sense) (inquiry q form room sense) .answer .number) room sense
     by true h = refl

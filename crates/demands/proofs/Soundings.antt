@@ -5,7 +5,8 @@ use Rattle.checksum.specs.Checksum.{damaged, damagedBy}
 use Rattle.identify.specs.Drive.{someBit, carriesName, equal}
 use Rattle.sense.specs.Sense.{isFixed, descriptorSense, senseData}
 use Rattle.sense.specs.Refusal.{rowOf, refusedSense}
-use Rattle.page83.specs.Page83.{page83}
+use Rattle.page83.specs.Ports.{relativePart, sasPart, wrongAddress, wrongPort}
+use Rattle.page83.specs.Page83.{driveDescriptor, page83}
 use Rattle.inquiry_checks.specs.Asked.{page}
 use Rattle.inquiry_checks.specs.Checks.{refusalOf as inquiryRefusal}
 use Rattle.inquiry.specs.Inquiry.{inquiry}
@@ -17,5 +18,5 @@ use Rattle.passthrough.specs.Complete.{complete, refusalOf as completeRefusal}
 use Rattle.demands.specs.Soundings.{SoundingsHold}
 
 pub soundings-hold : SoundingsHold
-unfolding turned damaged damagedBy someBit carriesName equal isFixed descriptorSense senseData rowOf refusedSense page83 page inquiry inquiryRefusal lengthOf orderOf submit submitRefusal complete completeRefusal
+unfolding turned damaged damagedBy someBit carriesName equal isFixed descriptorSense senseData rowOf refusedSense relativePart sasPart wrongAddress wrongPort driveDescriptor page83 page inquiry inquiryRefusal lengthOf orderOf submit submitRefusal complete completeRefusal
 soundings-hold = refl

@@ -26,11 +26,11 @@ stream-of-runs store l =
     }
 
 pub inquiry-from-a-stream : InquiryFromAStream
-inquiry-from-a-stream store l rs command signature texts reply form room sense = by (leb 512 (length (stream rs))) refl
+inquiry-from-a-stream store l rs command signature texts reply ports address form room sense = by (leb 512 (length (stream rs))) refl
   where
-    by : (b : Bool) → leb 512 (length (stream rs)) ≡ b → inquiryOf (runs (begin store) rs .intake .have) (runs (begin store) rs .store) command signature texts reply form room sense ≡ inquiry (request command (cond b (take 512 (stream rs)) []) signature texts reply) form room sense
-    by true e = Received.inquiry-from-a-stream store l rs command signature texts reply form room sense (leb-true 512 (length (stream rs)) e)
-    by false e = Received.inquiry-before-the-block store l rs command signature texts reply form room sense (leb-false 512 (length (stream rs)) e)
+    by : (b : Bool) → leb 512 (length (stream rs)) ≡ b → inquiryOf (runs (begin store) rs .intake .have) (runs (begin store) rs .store) command signature texts reply ports address form room sense ≡ inquiry (request command (cond b (take 512 (stream rs)) []) signature texts reply ports address) form room sense
+    by true e = Received.inquiry-from-a-stream store l rs command signature texts reply ports address form room sense (leb-true 512 (length (stream rs)) e)
+    by false e = Received.inquiry-before-the-block store l rs command signature texts reply ports address form room sense (leb-false 512 (length (stream rs)) e)
 
 pub roll-of-streams : RollOfStreams
 roll-of-streams bays s room rows fits = Received.roll-of-streams bays s room rows fits

@@ -4,10 +4,10 @@
 use mathlib.Core.Path.{_≡_}
 use mathlib.Core.Bool.{Bool, true, false, cond, not}
 use mathlib.Core.Logic.{_⊎_, _↔_}
-use mathlib.Core.List.{List, [], _++_}
+use mathlib.Core.List.{List, _++_}
 use Prim.Native.Nat.{ℕ, suc, _+_, _*_, _-_, _/_, _%_, _≤_, _<_}
 use lib.Dec.{eqb, leb}
-use lib.ListN.{length, getD, take, set}
+use lib.ListN.{length, getD, take, drop, set, replicate}
 use Rattle.rules.specs.Bits.{flag}
 use Rattle.room.specs.Room.{written}
 use Rattle.texts.specs.Text.{turned, spaced}
@@ -19,9 +19,12 @@ use Rattle.identify.specs.Block.{serial, model, name}
 use Rattle.identify.specs.Bytes.{Bytes}
 use Rattle.identify.specs.Words.{NameInWords, TextsInWords}
 use Rattle.identify.specs.Drive.{carriesName, sameDrive}
+use Rattle.page83.specs.declared.Ports.{Ports}
+use Rattle.page83.specs.Ports.{relativeChosen, sasChosen, wrongAddress, wrongPort}
 use Rattle.page83.specs.Page83 as Page83
 use Rattle.page83.specs.Page83.{page83, write}
 use Rattle.page83_reader.specs.declared.Name.{Name}
+use Rattle.page83_reader.specs.Reader as Reader
 use Rattle.page83_reader.specs.Reader.{inSixty, read}
 use Rattle.inquiry_fields.specs.Fields.{evpd, cmddt, pageCode, allocation, naca}
 use Rattle.inquiry_checks.specs.Request.{Request, request, isPacket}
@@ -71,13 +74,13 @@ pub record OneOutcome : Type 0 where
   pub of-served : (reply room : List ℕ) (shown count : ℕ) → Settled (part reply room shown count)
   pub of-submit : (p : Pending) (command registers : List ℕ) (declared form : ℕ) (sense : List ℕ) → Settled (submit p command registers declared form sense)
   pub of-complete : (p : Pending) (registers : List ℕ) (form : ℕ) (sense : List ℕ) → Settled (complete p registers form sense)
-  pub of-write : (block room : List ℕ) → Settled (write block room)
+  pub of-write : (block : List ℕ) (ports : Ports) (address room : List ℕ) → Settled (write block ports address room)
   pub of-read : (page : List ℕ) → Settled (read page)
   pub of-roll : (bytes room : List ℕ) → Settled (roll bytes room)
   pub of-take : (held : Intake) (store run : List ℕ) → Settled (taken held store run)
   pub of-block : (have store : ℕ) → Settled (Intake.offered have store)
   pub of-gather : (haves stores room : List ℕ) → Settled (gatherOf haves stores room)
-  pub of-inquiry-from-intake : (have : ℕ) (store command signature texts reply : List ℕ) (form : ℕ) (room sense : List ℕ) → Settled (inquiryOf have store command signature texts reply form room sense)
+  pub of-inquiry-from-intake : (have : ℕ) (store command signature texts reply : List ℕ) (ports : Ports) (address : List ℕ) (form : ℕ) (room sense : List ℕ) → Settled (inquiryOf have store command signature texts reply ports address form room sense)
   pub of-roll-of-intakes : (haves stores room rows : List ℕ) → Settled (rollOf haves stores room rows)
   pub of-feed : (c : Census) (block : List ℕ) → Settled (feed c block)
 
@@ -89,12 +92,12 @@ pub record RefusalsChangeNothing : Type 0 where
   pub of-inquiry : (q : Request) (form : ℕ) (room sense : List ℕ) → Refused (inquiry q form room sense .answer .number) → inquiry q form room sense ≡ Inquiry.refused form (inquiry q form room sense .answer .number) room sense
   pub of-submit : (p : Pending) (command registers : List ℕ) (declared form : ℕ) (sense : List ℕ) → Refused (submit p command registers declared form sense .submitted .taken .number) → submit p command registers declared form sense ≡ Submit.refused p form (submit p command registers declared form sense .submitted .taken .number) sense
   pub of-complete : (p : Pending) (registers : List ℕ) (form : ℕ) (sense : List ℕ) → Refused (complete p registers form sense .completed .ended .number) → complete p registers form sense ≡ Complete.refused p form (complete p registers form sense .completed .ended .number) sense
-  pub of-write : (block room : List ℕ) → Refused (write block room .written .number) → write block room ≡ Page83.outcome (record { number = write block room .written .number; count = 0 }) room
-  pub of-read : (page : List ℕ) → Refused (read page .number) → read page ≡ record { number = 16; form = 0; name = inSixty [] }
+  pub of-write : (block : List ℕ) (ports : Ports) (address room : List ℕ) → Refused (write block ports address room .written .number) → write block ports address room ≡ Page83.outcome (record { number = write block ports address room .written .number; count = 0 }) room
+  pub of-read : (page : List ℕ) → Refused (read page .number) → read page ≡ Reader.refused
   pub of-roll : (bytes room : List ℕ) → Refused (roll bytes room .counted .number) → roll bytes room ≡ Roll.outcome (record { number = roll bytes room .counted .number; blocks = 0; drives = 0 }) room
   pub of-take : (held : Intake) (store run : List ℕ) → Refused (taken held store run .took .number) → taken held store run ≡ Intake.outcome (Intake.answer held 0 (taken held store run .took .number) 0) store
   pub of-gather : (haves stores room : List ℕ) → Refused (gatherOf haves stores room .gathered .number) → gatherOf haves stores room ≡ Received.gatherOutcome (Received.given (gatherOf haves stores room .gathered .number) 0) room
-  pub of-inquiry-from-intake : (have : ℕ) (store command signature texts reply : List ℕ) (form : ℕ) (room sense : List ℕ) → Refused (inquiryOf have store command signature texts reply form room sense .answer .number) → inquiryOf have store command signature texts reply form room sense ≡ Inquiry.refused form (inquiryOf have store command signature texts reply form room sense .answer .number) room sense
+  pub of-inquiry-from-intake : (have : ℕ) (store command signature texts reply : List ℕ) (ports : Ports) (address : List ℕ) (form : ℕ) (room sense : List ℕ) → Refused (inquiryOf have store command signature texts reply ports address form room sense .answer .number) → inquiryOf have store command signature texts reply ports address form room sense ≡ Inquiry.refused form (inquiryOf have store command signature texts reply ports address form room sense .answer .number) room sense
   pub of-roll-of-intakes : (haves stores room rows : List ℕ) → Refused (rollOf haves stores room rows .counted .number) → rollOf haves stores room rows ≡ Received.outcome (record { number = rollOf haves stores room rows .counted .number; blocks = 0; drives = 0 }) room rows
   pub of-feed : (c : Census) (block : List ℕ) → Refused (feed c block .number) → feed c block ≡ Census.answer c (feed c block .number)
 
@@ -114,11 +117,11 @@ pub record RollSized (bytes : List ℕ) (entries : ℕ) : Type 0 where
 
 -- Where no size is wrong, a damaged block is refused with 18 and no status whatever else is asked, and nothing lent changes.
 pub record DamagedIsRefused : Type 0 where
-  pub of-inquiry : (q : Request) (form : ℕ) (room sense : List ℕ) → wrongSize (q .block) (q .signature) (q .texts) (length sense) ≡ false → damaged (q .block) ≡ true → inquiry q form room sense ≡ Inquiry.outcome (record { number = 18; status = noStatus; shown = 1; count = 0 }) room sense
-  pub of-write : (block room : List ℕ) → damaged block ≡ true → write block room ≡ Page83.outcome (record { number = 18; count = 0 }) room
+  pub of-inquiry : (q : Request) (form : ℕ) (room sense : List ℕ) → wrongSize (q .block) (q .signature) (q .texts) (q .ports) (q .address) (length sense) ≡ false → damaged (q .block) ≡ true → inquiry q form room sense ≡ Inquiry.outcome (record { number = 18; status = noStatus; shown = 1; count = 0 }) room sense
+  pub of-write : (block : List ℕ) (ports : Ports) (address room : List ℕ) → wrongAddress ports address ≡ false → damaged block ≡ true → write block ports address room ≡ Page83.outcome (record { number = 18; count = 0 }) room
   pub of-roll : (bytes room : List ℕ) → RollSized bytes (length room) → SomeDamaged bytes → roll bytes room ≡ Roll.outcome (record { number = 18; blocks = 0; drives = 0 }) room
   pub of-gather : (haves stores room : List ℕ) → wrongRun haves (length stores) ≡ false → SomeDamaged (gathered haves stores) → gatherOf haves stores room ≡ Received.gatherOutcome (Received.given 18 0) room
-  pub of-inquiry-from-intake : (have : ℕ) (store command signature texts reply : List ℕ) (form : ℕ) (room sense : List ℕ) → wrongIntake have (length store) ≡ false → wrongSize (blockOf have store) signature texts (length sense) ≡ false → damaged (blockOf have store) ≡ true → inquiryOf have store command signature texts reply form room sense ≡ Inquiry.outcome (record { number = 18; status = noStatus; shown = 1; count = 0 }) room sense
+  pub of-inquiry-from-intake : (have : ℕ) (store command signature texts reply : List ℕ) (ports : Ports) (address : List ℕ) (form : ℕ) (room sense : List ℕ) → wrongIntake have (length store) ≡ false → wrongSize (blockOf have store) signature texts ports address (length sense) ≡ false → damaged (blockOf have store) ≡ true → inquiryOf have store command signature texts reply ports address form room sense ≡ Inquiry.outcome (record { number = 18; status = noStatus; shown = 1; count = 0 }) room sense
   pub of-roll-of-intakes : (haves stores room rows : List ℕ) → wrongRun haves (length stores) ≡ false → RollSized (gathered haves stores) (length rows) → SomeDamaged (gathered haves stores) → rollOf haves stores room rows ≡ Received.outcome (record { number = 18; blocks = 0; drives = 0 }) room rows
   pub of-feed : (c : Census) (block : List ℕ) → closed c ≡ false → damaged block ≡ true → feed c block ≡ Census.answer c 18
 
@@ -131,7 +134,7 @@ abbrev pub withAllocation : ℕ → List ℕ → List ℕ
 withAllocation n command = set (set command 3 (n / 0x100)) 4 (n % 0x100)
 
 abbrev pub asking : Request → ℕ → Request
-asking q n = request (withAllocation n (q .command)) (q .block) (q .signature) (q .texts) (q .reply)
+asking q n = request (withAllocation n (q .command)) (q .block) (q .signature) (q .texts) (q .reply) (q .ports) (q .address)
 
 -- What is shown of an answer.
 abbrev pub shown : Request → Inquiry.Outcome → List ℕ
@@ -266,14 +269,14 @@ pub record FormsAgree : Type 0 where
   pub of-inquiry : (q : Request) (form other : ℕ) (room sense : List ℕ) → isFixed form ≡ true → isFixed other ≡ false → ToldAlike (inquiry q form room sense .answer .status) sense (inquiry q form room sense .sense) (inquiry q other room sense .sense)
   pub of-submit : (p : Pending) (command registers : List ℕ) (declared form other : ℕ) (sense : List ℕ) → isFixed form ≡ true → isFixed other ≡ false → ToldAlike (submit p command registers declared form sense .submitted .taken .status) sense (submit p command registers declared form sense .sense) (submit p command registers declared other sense .sense)
   pub of-complete : (p : Pending) (registers : List ℕ) (form other : ℕ) (sense : List ℕ) → isFixed form ≡ true → isFixed other ≡ false → ToldAlike (complete p registers form sense .completed .ended .status) sense (complete p registers form sense .sense) (complete p registers other sense .sense)
-  pub of-inquiry-from-intake : (have : ℕ) (store command signature texts reply : List ℕ) (form other : ℕ) (room sense : List ℕ) → isFixed form ≡ true → isFixed other ≡ false → ToldAlike (inquiryOf have store command signature texts reply form room sense .answer .status) sense (inquiryOf have store command signature texts reply form room sense .sense) (inquiryOf have store command signature texts reply other room sense .sense)
+  pub of-inquiry-from-intake : (have : ℕ) (store command signature texts reply : List ℕ) (ports : Ports) (address : List ℕ) (form other : ℕ) (room sense : List ℕ) → isFixed form ≡ true → isFixed other ≡ false → ToldAlike (inquiryOf have store command signature texts reply ports address form room sense .answer .status) sense (inquiryOf have store command signature texts reply ports address form room sense .sense) (inquiryOf have store command signature texts reply ports address other room sense .sense)
 
 -- And nothing else of a call hangs on the form: number, status, what is shown, order, record and room are the same in any two.
 pub record FormChangesOnlySense : Type 0 where
   pub of-inquiry : (q : Request) (form other : ℕ) (room sense : List ℕ) → (inquiry q form room sense .answer ≡ inquiry q other room sense .answer) × (inquiry q form room sense .room ≡ inquiry q other room sense .room)
   pub of-submit : (p : Pending) (command registers : List ℕ) (declared form other : ℕ) (sense : List ℕ) → submit p command registers declared form sense .submitted ≡ submit p command registers declared other sense .submitted
   pub of-complete : (p : Pending) (registers : List ℕ) (form other : ℕ) (sense : List ℕ) → complete p registers form sense .completed ≡ complete p registers other sense .completed
-  pub of-inquiry-from-intake : (have : ℕ) (store command signature texts reply : List ℕ) (form other : ℕ) (room sense : List ℕ) → (inquiryOf have store command signature texts reply form room sense .answer ≡ inquiryOf have store command signature texts reply other room sense .answer) × (inquiryOf have store command signature texts reply form room sense .room ≡ inquiryOf have store command signature texts reply other room sense .room)
+  pub of-inquiry-from-intake : (have : ℕ) (store command signature texts reply : List ℕ) (ports : Ports) (address : List ℕ) (form other : ℕ) (room sense : List ℕ) → (inquiryOf have store command signature texts reply ports address form room sense .answer ≡ inquiryOf have store command signature texts reply ports address other room sense .answer) × (inquiryOf have store command signature texts reply ports address form room sense .room ≡ inquiryOf have store command signature texts reply ports address other room sense .room)
 
 -- Where no form is stated the outcome is that of the fixed form, of every entry; and a form that is stated is the one that is written.
 pub record UsualForm : Type 0 where
@@ -282,7 +285,7 @@ pub record UsualForm : Type 0 where
   pub of-inquiry : (q : Request) (room sense : List ℕ) → inquiry q unstated room sense ≡ inquiry q fixed room sense
   pub of-submit : (p : Pending) (command registers : List ℕ) (declared : ℕ) (sense : List ℕ) → submit p command registers declared unstated sense ≡ submit p command registers declared fixed sense
   pub of-complete : (p : Pending) (registers sense : List ℕ) → complete p registers unstated sense ≡ complete p registers fixed sense
-  pub of-inquiry-from-intake : (have : ℕ) (store command signature texts reply room sense : List ℕ) → inquiryOf have store command signature texts reply unstated room sense ≡ inquiryOf have store command signature texts reply fixed room sense
+  pub of-inquiry-from-intake : (have : ℕ) (store command signature texts reply : List ℕ) (ports : Ports) (address room sense : List ℕ) → inquiryOf have store command signature texts reply ports address unstated room sense ≡ inquiryOf have store command signature texts reply ports address fixed room sense
 
 -- ## Demand 2: the reader of page 83h
 
@@ -290,20 +293,37 @@ pub record UsualForm : Type 0 where
 abbrev pub left : Page83.Outcome → List ℕ
 left o = take (o .written .count) (o .room)
 
--- The name of a block as the reader gives it: the world wide name, or model and serial number with their zero bytes as spaces.
-abbrev pub nameOf : List ℕ → Name
-nameOf block =
-    cond (carriesName block) (record { number = 0; form = 1; name = inSixty (turned (name block)) })
-    (record { number = 0; form = 2; name = inSixty (spaced (turned (model block)) ++ spaced (turned (serial block))) })
+-- What a choice of ports tells: bits and numbers that are not looked at are zero, as are the address's bytes where none is chosen.
+abbrev pub toldPorts : Ports → Ports
+toldPorts ports =
+    record {
+      chosen = flag (relativeChosen ports) + 2 * flag (sasChosen ports);
+      relative = cond (relativeChosen ports) (ports .relative) 0;
+    }
 
--- What the writer made, the reader accepts, and it gives back the name that went in.
+abbrev pub toldAddress : Ports → List ℕ → List ℕ
+toldAddress ports address = cond (sasChosen ports) address (replicate 8 0x00)
+
+-- The name of a block as the reader gives it: the world wide name, or model and serial number with their zero bytes as spaces; and
+-- the ports behind it.
+abbrev pub nameOf : List ℕ → Ports → List ℕ → Name
+nameOf block ports address =
+    record {
+      number = 0;
+      form = cond (carriesName block) 1 2;
+      name = inSixty (cond (carriesName block) (turned (name block)) (spaced (turned (model block)) ++ spaced (turned (serial block))));
+      ports = toldPorts ports;
+      address = toldAddress ports address;
+    }
+
+-- What the writer made, the reader accepts, and it gives back the name and the ports that went in.
 abbrev pub ReadsBack : Type 0
-ReadsBack = (block room : List ℕ) → write block room .written .number ≡ 0 → read (left (write block room)) ≡ nameOf block
+ReadsBack = (block : List ℕ) (ports : Ports) (address room : List ℕ) → write block ports address room .written .number ≡ 0 → read (left (write block ports address room)) ≡ nameOf block ports address
 
--- And it accepts nothing else: an accepted page is what the writer leaves for some block, in every room that holds it; and where the
--- page is of bytes, so is the block.
+-- And it accepts nothing else: an accepted page is what the writer leaves for some block and the ports and the address that the reader
+-- gives, in every room that holds it; and where the page is of bytes, so is the block.
 abbrev pub AcceptedIsWritten : Type 0
-AcceptedIsWritten = (page : List ℕ) → read page .number ≡ 0 → (block : List ℕ) × (Bytes page → Bytes block) × ((room : List ℕ) → length page ≤ length room → (write block room .written .number ≡ 0) × (left (write block room) ≡ page))
+AcceptedIsWritten = (page : List ℕ) → read page .number ≡ 0 → (block : List ℕ) × (Bytes page → Bytes block) × ((room : List ℕ) → length page ≤ length room → (write block (read page .ports) (read page .address) room .written .number ≡ 0) × (left (write block (read page .ports) (read page .address) room) ≡ page))
 
 -- ## Demand 3
 
@@ -344,23 +364,42 @@ pub record Rolled (bytes room : List ℕ) : Type 0 where
 abbrev pub RollOfDrives : Type 0
 RollOfDrives = (bytes room : List ℕ) → Rollable bytes room → Rolled bytes room
 
--- A block that the writer takes: it has 512 bytes and passes, and the room holds its page.
-pub record Writable (block room : List ℕ) : Type 0 where
+-- What the writer takes: a block of 512 bytes that passes, a chosen address of 8 bytes, a chosen port 1 or 2, and room for the page.
+pub record Writable (block : List ℕ) (ports : Ports) (address room : List ℕ) : Type 0 where
   pub whole : length block ≡ 512
   pub passes : Passes block
-  pub enough : length (page83 block) ≤ length room
+  pub right-address : wrongAddress ports address ≡ false
+  pub right-port : wrongPort ports ≡ false
+  pub enough : length (page83 block ports address) ≤ length room
 
 -- It accepts those, and no others.
 abbrev pub WriterAccepts : Type 0
-WriterAccepts = (block room : List ℕ) → (write block room .written .number ≡ 0) ↔ Writable block room
+WriterAccepts = (block : List ℕ) (ports : Ports) (address room : List ℕ) → (write block ports address room .written .number ≡ 0) ↔ Writable block ports address room
 
--- The pages of two blocks that pass are equal exactly when they are the same drive: as the writer leaves them,
+-- A page's first descriptor, of the length that its byte 3 tells.
+abbrev pub firstDescriptor : List ℕ → List ℕ
+firstDescriptor page = take (4 + getD page 7 0) (drop 4 page)
+
+-- Two choices tell the same ports: the same of the two are chosen, with equal number and equal address where they are.
+pub record SamePorts (ports : Ports) (address : List ℕ) (other : Ports) (other-address : List ℕ) : Type 0 where
+  pub both-relative : relativeChosen ports ≡ relativeChosen other
+  pub both-sas : sasChosen ports ≡ sasChosen other
+  pub same-number : relativeChosen ports ≡ true → ports .relative ≡ other .relative
+  pub same-address : sasChosen ports ≡ true → address ≡ other-address
+
+-- Of two pages the first descriptors are equal exactly when they are of the same drive, whatever the ports are; and the pages exactly
+-- when they are of the same drive and tell the same ports:
+pub record TellsApart (page other-page block other : List ℕ) (PortsAlike : Type 0) : Type 0 where
+  pub by-first-descriptor : (firstDescriptor page ≡ firstDescriptor other-page) ↔ (sameDrive block other ≡ true)
+  pub by-page : (page ≡ other-page) ↔ ((sameDrive block other ≡ true) × PortsAlike)
+
+-- as the writer leaves them, of blocks that pass,
 abbrev pub PagesOfTheWriter : Type 0
-PagesOfTheWriter = (a b room other : List ℕ) → Writable a room → Writable b other → (left (write a room) ≡ left (write b other)) ↔ (sameDrive a b ≡ true)
+PagesOfTheWriter = (a : List ℕ) (p : Ports) (x : List ℕ) (b : List ℕ) (q : Ports) (y room other : List ℕ) → Writable a p x room → Writable b q y other → TellsApart (left (write a p x room)) (left (write b q y other)) a b (SamePorts p x q y)
 
 -- A drive that is no packet drive, and whose block passes, is asked for its complete page 83h.
 pub record AsksItsName (q : Request) (room sense : List ℕ) : Type 0 where
-  pub block : Writable (q .block) room
+  pub writable : Writable (q .block) (q .ports) (q .address) room
   pub signature : length (q .signature) ≡ 20
   pub texts : length (q .texts) ≡ 28
   pub sense-room : 22 ≤ length sense
@@ -371,11 +410,11 @@ pub record AsksItsName (q : Request) (room sense : List ℕ) : Type 0 where
   pub disk : isPacket q ≡ false
   pub page-asked : evpd (q .command) ≡ true
   pub page-83h : pageCode (q .command) ≡ 0x83
-  pub complete : 76 ≤ allocation (q .command)
+  pub complete : length (page83 (q .block) (q .ports) (q .address)) ≤ allocation (q .command)
 
 -- and as INQUIRY, which then accepts, shows them.
 abbrev pub PagesOfInquiry : Type 0
-PagesOfInquiry = (q r : Request) (form other-form : ℕ) (room sense other-room other-sense : List ℕ) → AsksItsName q room sense → AsksItsName r other-room other-sense → (inquiry q form room sense .answer .number ≡ 0) × (inquiry r other-form other-room other-sense .answer .number ≡ 0) × ((shown q (inquiry q form room sense) ≡ shown r (inquiry r other-form other-room other-sense)) ↔ (sameDrive (q .block) (r .block) ≡ true))
+PagesOfInquiry = (q r : Request) (form other-form : ℕ) (room sense other-room other-sense : List ℕ) → AsksItsName q room sense → AsksItsName r other-room other-sense → (inquiry q form room sense .answer .number ≡ 0) × (inquiry r other-form other-room other-sense .answer .number ≡ 0) × TellsApart (shown q (inquiry q form room sense)) (shown r (inquiry r other-form other-room other-sense)) (q .block) (r .block) (SamePorts (q .ports) (q .address) (r .ports) (r .address))
 
 -- ## The intake: a stream in runs
 
@@ -400,7 +439,7 @@ StreamOfRuns = (store : List ℕ) → length store ≡ 512 → Streamed store
 
 -- INQUIRY from an intake is INQUIRY from the block that its stream brings: the first 512 bytes, or none before they are there.
 abbrev pub InquiryFromAStream : Type 0
-InquiryFromAStream = (store : List ℕ) → length store ≡ 512 → (rs : List (List ℕ)) (command signature texts reply : List ℕ) (form : ℕ) (room sense : List ℕ) → inquiryOf (runs (begin store) rs .intake .have) (runs (begin store) rs .store) command signature texts reply form room sense ≡ inquiry (request command (blockIn (stream rs)) signature texts reply) form room sense
+InquiryFromAStream = (store : List ℕ) → length store ≡ 512 → (rs : List (List ℕ)) (command signature texts reply : List ℕ) (ports : Ports) (address : List ℕ) (form : ℕ) (room sense : List ℕ) → inquiryOf (runs (begin store) rs .intake .have) (runs (begin store) rs .store) command signature texts reply ports address form room sense ≡ inquiry (request command (blockIn (stream rs)) signature texts reply ports address) form room sense
 
 -- And so is the roll of several bays, each with a stream of its own, in room that holds their blocks; refusals too.
 abbrev pub RollOfStreams : Type 0

@@ -40,7 +40,7 @@ shows number status bytes o =
     && equal (o .sense) (refusedSense descriptor number senseRoom)
 
 abbrev pub ask : List ℕ → Outcome
-ask command = inquiry (request command block0 (replicate 20 0x00) (replicate 28 0x00) []) descriptor room senseRoom
+ask command = inquiry (request command block0 (replicate 20 0x00) (replicate 28 0x00) [] (record { chosen = 0; relative = 0 }) []) descriptor room senseRoom
 
 -- The registers of C12; and a command sent to an empty record.
 abbrev pub registers : List ℕ

@@ -13,7 +13,7 @@ use Rattle.identify.specs.Drive.{carriesName}
 use Rattle.identify.proofs.Block.{length-serial, length-model, length-name}
 use Rattle.texts.proofs.Text.{length-turned, length-spaced}
 use Rattle.page83.specs.declared.Ports.{Ports}
-use Rattle.page83.specs.Ports.{relativeChosen, sasChosen, relativePort, sasPort, relativePart, sasPart, portsPart, wrongAddress}
+use Rattle.page83.specs.Ports.{relativeChosen, sasChosen, relativePort, sasPort, relativePart, sasPart, portsPart, wrongAddress, isPort, wrongPort}
 use Rattle.page83.specs.Page83.{page83, head, nameDescriptor, textDescriptor, driveDescriptor, ata}
 use Rattle.page83.specs.Helpers.{portsSize, driveEnd, pageSize}
 
@@ -51,10 +51,10 @@ module _ (block : List ℕ) (h : length block ≡ 512) where
       by false e = omega (arith, length-unnamed e)
 
 -- The size of the ports' part, where a chosen address has its 8 bytes.
-module _ (ports : Ports) (address : List ℕ) where
-  pub right-address : wrongAddress ports address ≡ false → sasChosen ports ≡ true → length address ≡ 8
-  unfolding wrongAddress
-  right-address h c = eqb-true _ _ (not-false _ (rw c at h))
+module _ (ports : Ports) where
+  pub right-port : wrongPort ports ≡ false → relativeChosen ports ≡ true → isPort (ports .relative) ≡ true
+  unfolding wrongPort
+  right-port h c = not-false _ (rw c at h)
 
   pub length-relative : length (relativePart ports) ≡ cond (relativeChosen ports) 8 0
   unfolding relativePart
@@ -63,6 +63,11 @@ module _ (ports : Ports) (address : List ℕ) where
       by : (b : Bool) → length (cond b (relativePort (ports .relative)) []) ≡ cond b 8 0
       by true = refl
       by false = refl
+
+module _ (ports : Ports) (address : List ℕ) where
+  pub right-address : wrongAddress ports address ≡ false → sasChosen ports ≡ true → length address ≡ 8
+  unfolding wrongAddress
+  right-address h c = eqb-true _ _ (not-false _ (rw c at h))
 
   pub length-sas : wrongAddress ports address ≡ false → length (sasPart ports address) ≡ cond (sasChosen ports) 12 0
   unfolding sasPart
@@ -74,7 +79,7 @@ module _ (ports : Ports) (address : List ℕ) where
 
   pub length-ports : wrongAddress ports address ≡ false → length (portsPart ports address) ≡ portsSize ports
   unfolding portsSize
-  length-ports h = length-append (relativePart ports) (sasPart ports address) ∙ rw (length-relative, length-sas h)
+  length-ports h = length-append (relativePart ports) (sasPart ports address) ∙ rw (length-relative ports, length-sas h)
 
 -- The page's size, and the page by that of its parts.
 module _ (block : List ℕ) (ports : Ports) (address : List ℕ) (h : length block ≡ 512) (g : wrongAddress ports address ≡ false) where
