@@ -358,12 +358,12 @@ module _ (end : ℕ) (page : List ℕ) (h : headed page ≡ true) (m : Made end 
 abbrev Owed : List ℕ → Name → Type 0
 Owed page n = (block : List ℕ) × (Bytes page → Bytes block) × ((room : List ℕ) → length page ≤ length room → (write block (n .ports) (n .address) room .written .number ≡ 0) × (left (write block (n .ports) (n .address) room) ≡ page))
 
-owed : (end form from : ℕ) (page : List ℕ) → headed page ≡ true → Made end page → told form from end page .number ≡ 0 → Owed page (told form from end page)
+owed : (end form : ℕ) (name page : List ℕ) → headed page ≡ true → Made end page → told form (inSixty name) (drop end page) .number ≡ 0 → Owed page (told form (inSixty name) (drop end page))
 unfolding told
-owed end form from page h m e = by (tellsPorts (drop end page)) refl e
+owed end form name page h m e = by (tellsPorts (drop end page)) refl e
   where
     either : Bool → Name
-    either t = cond t (given form (take (end - from) (drop from page)) (drop end page)) Reader.refused
+    either t = cond t (given form name (drop end page)) Reader.refused
 
     by : (t : Bool) → tellsPorts (drop end page) ≡ t → either t .number ≡ 0 → Owed page (either t)
     by true t e = (m .0, m .4, written-again end page h m t)
@@ -374,11 +374,11 @@ unfolding read
 accepted-is-written page e = by (headed page && namesDrive page) (headed page && tellsTexts page) refl refl e
   where
     either : Bool → Bool → Name
-    either p q = cond p (told 1 8 16 page) (cond q (told 2 16 76 page) Reader.refused)
+    either p q = cond p (told 1 (inSixty (take 8 (drop 8 page))) (drop 16 page)) (cond q (told 2 (inSixty (take 60 (drop 16 page))) (drop 76 page)) Reader.refused)
 
     by : (p q : Bool) → (headed page && namesDrive page) ≡ p → (headed page && tellsTexts page) ≡ q → either p q .number ≡ 0 → Owed page (either p q)
-    by true q f g e = let both = and-eq-true-iff _ (namesDrive page) .0 f in owed 16 1 8 page (both .0) (made-name page (both .1)) e
-    by false true f g e = let both = and-eq-true-iff _ (tellsTexts page) .0 g in owed 76 2 16 page (both .0) (made-texts page (both .1)) e
+    by true q f g e = let both = and-eq-true-iff _ (namesDrive page) .0 f in owed 16 1 (take 8 (drop 8 page)) page (both .0) (made-name page (both .1)) e
+    by false true f g e = let both = and-eq-true-iff _ (tellsTexts page) .0 g in owed 76 2 (take 60 (drop 16 page)) page (both .0) (made-texts page (both .1)) e
     by false false f g e = absurd (omega (arith, e))
 
 -- Texts are equal with their zero bytes as spaces, turned or not.

@@ -5,7 +5,7 @@ use mathlib.Core.List.{List, [], _∷_}
 use Prim.Native.Nat.{ℕ}
 use native.Mathlib.Omega.{arith}
 use lib.Dec.{eqb, ltb}
-use lib.ListN.{length, drop}
+use lib.ListN.{length, take, drop}
 use borrow.Author.Tests.{eq-eqb, eqb-true}
 use Rattle.rules.specs.First.{_when_, first}
 use Rattle.page83.specs.declared.Ports.{Ports}
@@ -13,7 +13,7 @@ use Rattle.page83.specs.Page83 as Page83
 use Rattle.page83.specs.Page83.{write}
 use Rattle.page83_reader.specs.declared.Name.{Name}
 use Rattle.page83_reader.specs.Reader as Reader
-use Rattle.page83_reader.specs.Reader.{headed, namesDrive, tellsTexts, tellsPorts, told, read}
+use Rattle.page83_reader.specs.Reader.{headed, namesDrive, tellsTexts, tellsPorts, inSixty, told, read}
 use Rattle.inquiry_checks.specs.Request.{Request, request, isPacket, passesThrough}
 use Rattle.inquiry_checks.specs.Checks as InquiryChecks
 use Rattle.inquiry.specs.Inquiry as Inquiry
@@ -90,11 +90,11 @@ of-write block ports address room h =
     by-number (λ (o : Page83.Outcome). o .written .number) (λ n. Page83.outcome (record { number = n; count = 0 }) room) _ r (eqb r 0) refl refl h
 
 -- What the reader tells is accepted, or refused as every refused page is.
-told-or-refused : (form from to : ℕ) (page : List ℕ) → Refused (told form from to page .number) → told form from to page ≡ Reader.refused
+told-or-refused : (form : ℕ) (name behind : List ℕ) → Refused (told form name behind .number) → told form name behind ≡ Reader.refused
 unfolding told
-told-or-refused form from to page h = by (tellsPorts (drop to page)) refl
+told-or-refused form name behind h = by (tellsPorts behind) refl
   where
-    by : (t : Bool) → tellsPorts (drop to page) ≡ t → told form from to page ≡ Reader.refused
+    by : (t : Bool) → tellsPorts behind ≡ t → told form name behind ≡ Reader.refused
     by true e = absurd (h (rw e))
     by false e = rw e
 
@@ -103,11 +103,11 @@ unfolding read
 of-read page h = by (headed page && namesDrive page) (headed page && tellsTexts page) h
   where
     either : Bool → Bool → Name
-    either p q = cond p (told 1 8 16 page) (cond q (told 2 16 76 page) Reader.refused)
+    either p q = cond p (told 1 (inSixty (take 8 (drop 8 page))) (drop 16 page)) (cond q (told 2 (inSixty (take 60 (drop 16 page))) (drop 76 page)) Reader.refused)
 
     by : (p q : Bool) → Refused (either p q .number) → either p q ≡ Reader.refused
-    by true q h = told-or-refused 1 8 16 page h
-    by false true h = told-or-refused 2 16 76 page h
+    by true q h = told-or-refused 1 (inSixty (take 8 (drop 8 page))) (drop 16 page) h
+    by false true h = told-or-refused 2 (inSixty (take 60 (drop 16 page))) (drop 76 page) h
     by false false h = refl
 
 of-roll : (bytes room : List ℕ) → Refused (roll bytes room .counted .number) → roll bytes room ≡ Roll.outcome (record { number = roll bytes room .counted .number; blocks = 0; drives = 0 }) room

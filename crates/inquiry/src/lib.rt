@@ -114,8 +114,14 @@ pub fn inquiry(
     }
     let size = inquiry_checks::size(packet, command, block, reply, ports);
     let n = rules::lesser(size, allocation);
+    // 8 has no sense bytes
     if room.len() < n {
-        return refuse(sense, form, 8);
+        return Answer {
+            number: 8,
+            status: sense::NONE,
+            shown: 1,
+            count: 0,
+        };
     }
     put_page(
         &mut room[..n],

@@ -1,10 +1,10 @@
 -- No rules: names for contracts of functions below the entry.
 use mathlib.Core.Path.{_≡_}
 use mathlib.Core.Bool.{Bool, true, false, cond, _&&_, _||_, not}
-use mathlib.Core.List.{List}
+use mathlib.Core.List.{List, []}
 use Prim.Native.Nat.{ℕ, _+_, _≤_}
 use lib.Dec.{eqb}
-use lib.ListN.{length, take}
+use lib.ListN.{length, take, drop}
 use Rattle.rules.specs.First.{first}
 use Rattle.page83.specs.declared.Ports.{Ports}
 use Rattle.page83.specs.Ports.{wrongAddress}
@@ -13,7 +13,7 @@ use Rattle.pages.specs.Page.{standard, page80, blockOrZeros}
 use Rattle.pages.specs.Helpers.{WholeOrNone}
 use Rattle.packet.specs.Packet.{unusable, page00 as packetPage00}
 use Rattle.inquiry_fields.specs.Fields.{evpd, pageCode}
-use Rattle.inquiry_checks.specs.Request.{Request, isPacket}
+use Rattle.inquiry_checks.specs.Request.{Request, request, isPacket}
 use Rattle.inquiry_checks.specs.Checks.{checks}
 
 -- The size of the page that is asked for, which looks at fewer of the lent pieces than the page.
@@ -33,6 +33,10 @@ fromBlock packet command =
 -- All checks but the last, which alone looks at the room.
 unfoldable pub earlyRefusal : Request → ℕ → ℕ
 earlyRefusal q sense = first (take 10 (checks q 0 sense))
+
+-- The last five of these, which are those of a whole command: they look at neither texts nor sizes.
+unfoldable pub commandRefusal : List ℕ → List ℕ → List ℕ → List ℕ → Ports → ℕ
+commandRefusal command block signature reply ports = first (take 5 (drop 5 (checks (request command block signature [] reply ports []) 0 0)))
 
 -- What writing the page takes for granted, once the checks have passed.
 pub record Servable (q : Request) : Type 0 where

@@ -11,7 +11,7 @@ ghost use lib.ListN.{length};
 ghost use Rattle.inquiry_fields.specs.Fields.{evpd};
 ghost use Rattle.inquiry_checks.specs.Request.{request, passesThrough};
 ghost use Rattle.inquiry_checks.specs.Checks.{wrongSize, wrongField, knownPage, wrongPage, noBlock, noPort, noList};
-ghost use Rattle.inquiry_checks.specs.Helpers.{fromBlock, sizeOf, earlyRefusal};
+ghost use Rattle.inquiry_checks.specs.Helpers.{fromBlock, sizeOf, commandRefusal, earlyRefusal};
 
 // Neither 512 bytes nor none.
 fn wrong_block(block: usize) -> bool
@@ -119,21 +119,21 @@ fn no_block(packet: bool, command: &[u8], block: &[u8]) -> bool
     command[2] == 0x83
 }
 
-// 19: page 83h, and a port that is not 1 or 2. The ports are asked first, since nearly no call chooses a wrong one.
+// 19: page 83h, and a port that is not 1 or 2.
 fn no_port(packet: bool, command: &[u8], ports: Ports) -> bool
     requires { ⌜ 6 ≤ length (now command) ⌝ }
     ensures { λ r. ⌜ r ≡ (not packet && noPort (now (command .entry)) ports) ⌝ }
 {
-    if !port::wrong_port(ports) {
-        return false;
-    }
     if packet {
         return false;
     }
-    if inquiry_fields::evpd(command) {
-        return command[2] == 0x83;
+    if !inquiry_fields::evpd(command) {
+        return false;
     }
-    false
+    if command[2] != 0x83 {
+        return false;
+    }
+    port::wrong_port(ports)
 }
 
 // Whether a packet drive's own reply is shown.
@@ -207,6 +207,30 @@ pub fn size(packet: bool, command: &[u8], block: &[u8], reply: &[u8], ports: Por
     pages::information_size(block)
 }
 
+// The number of the first check of a whole command that applies, and 0 where none does.
+fn command_fault(command: &[u8], block: &[u8], signature: &[u8], reply: &[u8], ports: Ports) -> u8
+    requires { ⌜ 6 ≤ length (now command) ⌝ }
+    ensures { λ r. ⌜ r ≡ commandRefusal (now (command .entry)) (now (block .entry)) (now (signature .entry)) (now (reply .entry)) ports ⌝ }
+{
+    let packet = packet::packet_drive(signature);
+    if wrong_field(packet, command) {
+        return 4;
+    }
+    if wrong_page(packet, command) {
+        return 5;
+    }
+    if no_block(packet, command, block) {
+        return 6;
+    }
+    if no_port(packet, command, ports) {
+        return 19;
+    }
+    if no_list(packet, command, reply) {
+        return 7;
+    }
+    0
+}
+
 // The number of the first check that applies, but for that of the room, and 0 where none does.
 pub fn fault(
     command: &[u8],
@@ -235,21 +259,5 @@ pub fn fault(
     if command.len() < 6 {
         return 2;
     }
-    let packet = packet::packet_drive(signature);
-    if wrong_field(packet, command) {
-        return 4;
-    }
-    if wrong_page(packet, command) {
-        return 5;
-    }
-    if no_block(packet, command, block) {
-        return 6;
-    }
-    if no_port(packet, command, ports) {
-        return 19;
-    }
-    if no_list(packet, command, reply) {
-        return 7;
-    }
-    0
+    command_fault(command, block, signature, reply, ports)
 }

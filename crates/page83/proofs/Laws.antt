@@ -1,12 +1,15 @@
 -- Laws of page 83h: the forms of its first descriptor, the ports' part, and their lengths.
 use mathlib.Core.Path.{_≡_, refl, sym, ap, _∙_}
-use mathlib.Core.Bool.{Bool, true, false, cond, not}
+use mathlib.Core.Bool.{Bool, true, false, cond, _||_, not}
 use mathlib.Core.List.{List, [], _++_}
-use Prim.Native.Nat.{ℕ, _+_, _≤_}
+use Prim.Native.Nat.{ℕ, _+_, _≤_, _<_}
 use native.Mathlib.Omega.{arith}
 use lib.Dec.{eqb}
 use lib.ListN.{length, length-append}
-use borrow.Author.Tests.{eqb-true, not-false}
+use borrow.Author.Tests.{eq-eqb, eqb-true, lt-ltb, le-ltb, not-false}
+use Rattle.rules.proofs.First.{neither}
+use Rattle.room.specs.Room.{written}
+use Rattle.checksum.specs.Checksum.{damaged}
 use Rattle.identify.specs.Block.{serial, model, name}
 use Rattle.texts.specs.Text.{turned, spaced}
 use Rattle.identify.specs.Drive.{carriesName}
@@ -14,7 +17,7 @@ use Rattle.identify.proofs.Block.{length-serial, length-model, length-name}
 use Rattle.texts.proofs.Text.{length-turned, length-spaced}
 use Rattle.page83.specs.declared.Ports.{Ports}
 use Rattle.page83.specs.Ports.{relativeChosen, sasChosen, relativePort, sasPort, relativePart, sasPart, portsPart, wrongAddress, isPort, wrongPort}
-use Rattle.page83.specs.Page83.{page83, head, nameDescriptor, textDescriptor, driveDescriptor, ata}
+use Rattle.page83.specs.Page83.{page83, head, nameDescriptor, textDescriptor, driveDescriptor, ata, refusalOf, outcome, write}
 use Rattle.page83.specs.Helpers.{portsSize, driveEnd, pageSize}
 
 module _ (block : List ℕ) where
@@ -50,6 +53,16 @@ module _ (block : List ℕ) (h : length block ≡ 512) where
       by true e = omega (arith, length-named e)
       by false e = omega (arith, length-unnamed e)
 
+  -- Where it ends in the page.
+  pub named-end : 16 ≡ 0 + length (head 0 ++ nameDescriptor (turned (name block)))
+  named-end = omega (arith, length-turned (name block), length-name block h)
+
+  pub unnamed-end : 76 ≡ 0 + length (head 0 ++ textDescriptor (spaced (turned (model block))) (spaced (turned (serial block))))
+  unnamed-end =
+      let m = spaced (turned (model block)) in
+      let s = spaced (turned (serial block)) in
+      omega (arith, length-append (ata ++ m) s, length-append ata m, length-model-text, length-serial-text)
+
 -- The size of the ports' part, where a chosen address has its 8 bytes.
 module _ (ports : Ports) where
   pub right-port : wrongPort ports ≡ false → relativeChosen ports ≡ true → isPort (ports .relative) ≡ true
@@ -69,6 +82,12 @@ module _ (ports : Ports) (address : List ℕ) where
   unfolding wrongAddress
   right-address h c = eqb-true _ _ (not-false _ (rw c at h))
 
+  pub nothing-chosen : (relativeChosen ports || sasChosen ports) ≡ false → portsPart ports address ≡ []
+  unfolding relativePart sasPart
+  nothing-chosen e =
+      let none = neither (relativeChosen ports) (sasChosen ports) e in
+      rw (none .0, none .1)
+
   pub length-sas : wrongAddress ports address ≡ false → length (sasPart ports address) ≡ cond (sasChosen ports) 12 0
   unfolding sasPart
   length-sas h = by (sasChosen ports) refl
@@ -87,9 +106,26 @@ module _ (block : List ℕ) (ports : Ports) (address : List ℕ) (h : length blo
   unfolding page83
   page-size = omega (arith, length-append (driveDescriptor block) (portsPart ports address), length-drive block h, length-ports ports address g)
 
-  pub page-is : page83 block ports address ≡ head (length (driveDescriptor block) + portsSize ports) ++ driveDescriptor block ++ portsPart ports address
+  named-or-not : page83 block ports address ≡ head (length (driveDescriptor block) + portsSize ports) ++ driveDescriptor block ++ portsPart ports address
   unfolding page83
-  page-is =
+  named-or-not =
       let l : length (driveDescriptor block ++ portsPart ports address) ≡ length (driveDescriptor block) + portsSize ports =
       length-append (driveDescriptor block) (portsPart ports address) ∙ ap (λ (n : ℕ). length (driveDescriptor block) + n) (length-ports ports address g) in
       ap (λ (n : ℕ). head n ++ driveDescriptor block ++ portsPart ports address) l
+
+  -- The page, and its size, by whether the block carries a name.
+  pub named-page : carriesName block ≡ true → page83 block ports address ≡ head (12 + portsSize ports) ++ nameDescriptor (turned (name block)) ++ portsPart ports address
+  named-page e = named-or-not ∙ rw (length-named block h e, named-drive block e)
+
+  pub unnamed-page : carriesName block ≡ false → page83 block ports address ≡ head (72 + portsSize ports) ++ textDescriptor (spaced (turned (model block))) (spaced (turned (serial block))) ++ portsPart ports address
+  unnamed-page e = named-or-not ∙ rw (length-unnamed block h e, unnamed-drive block e)
+
+-- The writer of a block that passes, with ports that it takes, by how much room there is for a page of n bytes.
+module _ (block : List ℕ) (ports : Ports) (address room : List ℕ) (h : length block ≡ 512) (a : wrongAddress ports address ≡ false) (d : damaged block ≡ false) (p : wrongPort ports ≡ false) {n : ℕ} (l : length (page83 block ports address) ≡ n) where
+  pub too-little : length room < n → write block ports address room ≡ outcome (record { number = 8; count = 0 }) room
+  unfolding refusalOf write
+  too-little s = rw (eq-eqb _ _ h, a, d, p, l, lt-ltb _ _ s)
+
+  pub enough : n ≤ length room → write block ports address room ≡ outcome (record { number = 0; count = n }) (written room 0 (page83 block ports address))
+  unfolding refusalOf write
+  enough s = rw (eq-eqb _ _ h, a, d, p, l, le-ltb _ _ s)

@@ -5,15 +5,14 @@ pub mod port;
 ghost use mathlib.Core.Path.{_≡_};
 ghost use mathlib.Core.Bool.{Bool, false};
 ghost use mathlib.Core.List.{List, _++_};
-ghost use Prim.Native.Nat.{ℕ, _+_, _≤_};
+ghost use Prim.Native.Nat.{_≤_};
 ghost use lib.ListN.{length};
 ghost use Rattle.room.specs.Room.{Wrote};
 ghost use Rattle.identify.specs.Block.{serial, model, name};
-ghost use Rattle.identify.specs.Drive.{carriesName};
 ghost use Rattle.texts.specs.Text.{turned, spaced};
-ghost use Rattle.page83.specs.Ports.{wrongAddress};
-ghost use Rattle.page83.specs.Page83.{page83, head, nameDescriptor, textDescriptor, driveDescriptor, outcome, write as Page83·write};
-ghost use Rattle.page83.specs.Helpers.{portsSize, driveEnd, pageSize};
+ghost use Rattle.page83.specs.Ports.{portsPart, wrongAddress};
+ghost use Rattle.page83.specs.Page83.{page83, head, nameDescriptor, textDescriptor, outcome, write as Page83·write};
+ghost use Rattle.page83.specs.Helpers.{pageSize};
 
 // The target ports that a caller chooses: bit 0 the relative one, whose number stands beside it, bit 1 the SAS one, whose address is
 // lent.
@@ -111,29 +110,25 @@ fn put_texts(room: &mut [u8], block: &[u8], behind: u8)
     texts::put_spaced(room, 56, identify::serial(block));
 }
 
-// Head and descriptor of a drive, by whether it carries a name; the head tells `grown` bytes more, which are to follow. Where the descriptor ends
-// comes back.
-fn put_drive(room: &mut [u8], block: &[u8], named: bool, grown: u8) -> usize
-    requires { ⌜ (length (now block) ≡ 512) × ((carriesName (now block) ≡ named) × (grown ≤ 20)) ⌝ }
-    ensures end { λ r. ⌜ r ≡ driveEnd named ⌝ }
-    ensures room { λ _. ⌜ Wrote (now (room .entry)) 0 (head (length (driveDescriptor (now (block .entry))) + grown) ++ driveDescriptor (now (block .entry))) (now (room .exit)) ⌝ }
+// Writes the ports that are chosen into the room behind the drive's descriptor, which ends at a place that the room has.
+fn store_ports(room: &mut [u8], end: usize, ports: Ports, address: &[u8])
+    requires { ⌜ (wrongAddress ports (now address) ≡ false) × (end ≤ length (now room)) ⌝ }
+    ensures { λ _. ⌜ Wrote (now (room .entry)) end (portsPart ports (now (address .entry))) (now (room .exit)) ⌝ }
 {
-    if named {
-        put_name(room, block, 12 + grown);
-        return 16;
+    if port::chosen(ports) {
+        port::put(&mut room[end..], ports, address);
     }
-    put_texts(room, block, 72 + grown);
-    76
 }
 
-// Writes the page of a block, by whether it carries a name: the ports go into the room that is left behind the drive's descriptor.
-fn put_page(room: &mut [u8], block: &[u8], named: bool, ports: Ports, address: &[u8])
-    requires { ⌜ (length (now block) ≡ 512) × ((carriesName (now block) ≡ named) × (wrongAddress ports (now address) ≡ false)) ⌝ }
-    ensures { λ _. ⌜ Wrote (now (room .entry)) 0 (page83 (now (block .entry)) ports (now (address .entry))) (now (room .exit)) ⌝ }
+// The same into as much room as is left there.
+fn put_ports(room: &mut [u8], end: usize, ports: Ports, address: &[u8])
+    requires { ⌜ wrongAddress ports (now address) ≡ false ⌝ }
+    ensures { λ _. ⌜ Wrote (now (room .entry)) end (portsPart ports (now (address .entry))) (now (room .exit)) ⌝ }
 {
-    let end = put_drive(room, block, named, port::size(ports));
-    let behind = rules::lesser(end, room.len());
-    port::put(&mut room[behind..], ports, address);
+    if port::chosen(ports) {
+        let behind = rules::lesser(end, room.len());
+        port::put(&mut room[behind..], ports, address);
+    }
 }
 
 // Writes the page of a block, as much of it as fits.
@@ -141,17 +136,13 @@ pub fn put(room: &mut [u8], block: &[u8], ports: Ports, address: &[u8])
     requires { ⌜ (length (now block) ≡ 512) × (wrongAddress ports (now address) ≡ false) ⌝ }
     ensures { λ _. ⌜ Wrote (now (room .entry)) 0 (page83 (now (block .entry)) ports (now (address .entry))) (now (room .exit)) ⌝ }
 {
-    put_page(room, block, identify::carries_name(block), ports, address);
-}
-
-// The page's size, by whether the block carries a name.
-fn size_of(named: bool, ports: Ports) -> usize
-    ensures { λ r. ⌜ r ≡ driveEnd named + portsSize ports ⌝ }
-{
-    if named {
-        return 16 + port::size(ports) as usize;
+    if identify::carries_name(block) {
+        put_name(room, block, 12 + port::size(ports));
+        put_ports(room, 16, ports, address);
+        return;
     }
-    76 + port::size(ports) as usize
+    put_texts(room, block, 72 + port::size(ports));
+    put_ports(room, 76, ports, address);
 }
 
 // The page's size; the address counts as one of 8 bytes.
@@ -159,7 +150,11 @@ pub fn size(block: &[u8], ports: Ports) -> usize
     requires { ⌜ length (now block) ≡ 512 ⌝ }
     ensures { λ r. ⌜ r ≡ pageSize (now (block .entry)) ports ⌝ }
 {
-    size_of(identify::carries_name(block), ports)
+    let grown = port::size(ports) as usize;
+    if identify::carries_name(block) {
+        return 16 + grown;
+    }
+    76 + grown
 }
 
 // The writer's answer.
@@ -185,11 +180,21 @@ pub fn write(block: &[u8], ports: Ports, address: &[u8], room: &mut [u8]) -> Wri
     if port::wrong_port(ports) {
         return wrote(19, 0);
     }
-    let named = identify::carries_name(block);
-    let size = size_of(named, ports);
+    let grown = port::size(ports);
+    if identify::carries_name(block) {
+        let size = 16 + grown as usize;
+        if room.len() < size {
+            return wrote(8, 0);
+        }
+        store_name(room, block, 12 + grown);
+        store_ports(room, 16, ports, address);
+        return wrote(0, size);
+    }
+    let size = 76 + grown as usize;
     if room.len() < size {
         return wrote(8, 0);
     }
-    put_page(room, block, named, ports, address);
+    store_texts(room, block, 72 + grown);
+    store_ports(room, 76, ports, address);
     wrote(0, size)
 }

@@ -2,7 +2,7 @@
 // rules stand in specs/Ports.
 use crate::Ports;
 ghost use mathlib.Core.Path.{_≡_};
-ghost use mathlib.Core.Bool.{Bool, false, cond};
+ghost use mathlib.Core.Bool.{Bool, false, _||_};
 ghost use mathlib.Core.List.{List};
 ghost use Prim.Native.Nat.{ℕ, _≤_};
 ghost use lib.ListN.{length};
@@ -29,6 +29,13 @@ fn sas_chosen(ports: Ports) -> bool
     ensures { λ r. ⌜ r ≡ sasChosen ports ⌝ }
 {
     ports.chosen / 2 % 2 == 1
+}
+
+// Whether any of the two is chosen.
+pub fn chosen(ports: Ports) -> bool
+    ensures { λ r. ⌜ r ≡ (relativeChosen ports || sasChosen ports) ⌝ }
+{
+    relative_chosen(ports) | sas_chosen(ports)
 }
 
 // 1: a chosen address that is not of 8 bytes.

@@ -1,6 +1,6 @@
 -- Laws of what is read: texts without zero bytes, the page's head, what is left behind a place, and the ports.
 use mathlib.Core.Path.{_≡_, refl, sym, ap, _∙_}
-use mathlib.Core.Bool.{Bool, true, false, _&&_, and-false, and-true}
+use mathlib.Core.Bool.{Bool, true, false, _&&_, and-false, true≢false}
 use mathlib.Core.List.{List, [], _∷_}
 use mathlib.Core.Logic.{⊎-elim}
 use Prim.Native.Nat.{ℕ, zero, suc, _-_, _≤_, _<_}
@@ -13,7 +13,7 @@ use borrow.Author.Tests.{eq-eqb, ne-eqb}
 use Rattle.identify.specs.Drive.{equal}
 use Rattle.identify.proofs.Drive.{not-equal}
 use Rattle.page83.specs.Page83.{head}
-use Rattle.page83_reader.specs.Reader.{noZero, headed, twoBytes, relativeIn}
+use Rattle.page83_reader.specs.Reader.{noZero, headed, twoBytes, relativeIn, tellsSas, sasOrNothing}
 
 -- No byte is zero where none is at any place, and one is where one is at some place.
 pub all-nonzero : (s : List ℕ) → ((k : ℕ) → k < length s → getD s k 0 ≡ 0 → ⊥) → noZero s ≡ true
@@ -66,3 +66,9 @@ none-in-few bytes h =
 pub relative-long : (bytes : List ℕ) → (relativeIn bytes ≡ 0 → ⊥) → 8 ≤ length bytes
 relative-long bytes n =
     ⊎-elim (λ z. omega (arith, z)) (λ z. absurd (n (none-in-few bytes (omega (arith, z))))) (eq-zero-or-pos (8 - length bytes))
+
+-- Bytes that are a SAS target port or none, and not 12, are none.
+pub no-sas : (sas : List ℕ) → sasOrNothing sas ≡ true → (length sas ≡ 12 → ⊥) → sas ≡ []
+unfolding tellsSas
+no-sas [] h n = refl
+no-sas (b ∷ sas) h n = absurd (true≢false (sym h ∙ rw (ne-eqb (length (b ∷ sas)) 0 (λ e. omega (arith, e)), ne-eqb (length (b ∷ sas)) 12 n)))

@@ -79,22 +79,16 @@ refused =
       address = replicate 8 0x00;
     }
 
--- A name that stands in the page from one place up to another, and the ports behind it.
-unfoldable pub told : ℕ → ℕ → ℕ → List ℕ → Name
-told form from to page =
-    cond (tellsPorts (drop to page))
-    (record {
-      number = 0;
-      form = form;
-      name = inSixty (take (to - from) (drop from page));
-      ports = portsIn (drop to page);
-      address = addressIn (drop to page);
-    })
+-- A name, in its 60 bytes, and the ports that stand behind it.
+unfoldable pub told : ℕ → List ℕ → List ℕ → Name
+told form name behind =
+    cond (tellsPorts behind)
+    (record { number = 0; form = form; name = name; ports = portsIn behind; address = addressIn behind })
     refused
 
 -- Form 1 is the world wide name, form 2 the model (40 bytes) and the serial number (20).
 unfoldable pub read : List ℕ → Name
 read page =
-    cond (headed page && namesDrive page) (told 1 8 16 page)
-    (cond (headed page && tellsTexts page) (told 2 16 76 page)
+    cond (headed page && namesDrive page) (told 1 (inSixty (take 8 (drop 8 page))) (drop 16 page))
+    (cond (headed page && tellsTexts page) (told 2 (inSixty (take 60 (drop 16 page))) (drop 76 page))
     refused)

@@ -6,7 +6,7 @@ use page83::port;
 use page83::port::RELATIVE_HEAD;
 use page83::port::SAS_HEAD;
 ghost use mathlib.Core.Path.{_≡_};
-ghost use mathlib.Core.Bool.{Bool};
+ghost use mathlib.Core.Bool.{Bool, true};
 ghost use mathlib.Core.List.{List};
 ghost use Prim.Native.Nat.{_≤_};
 ghost use lib.ListN.{length, drop};
@@ -125,10 +125,13 @@ fn ports_of(relative: u16, sas: bool) -> Ports
 
 // The address in a SAS target port, and zeros where there is none.
 fn address_of(sas: &[u8]) -> [u8; 8]
+    requires { ⌜ sasOrNothing (now sas) ≡ true ⌝ }
     ensures { λ r. ⌜ r ≡ addressOf (now (sas .entry)) ⌝ }
 {
     let mut address = [0x00u8; 8];
-    room::put(&mut address, 0, rules::part(sas, 4, 12));
+    if sas.len() == 12 {
+        room::store(&mut address, 0, &sas[4..12]);
+    }
     address
 }
 
@@ -154,12 +157,10 @@ fn refused() -> Name
     }
 }
 
-// The name that stands from one place up to another, and the ports behind it.
-fn told(form: u8, from: usize, to: usize, page: &[u8]) -> Name
-    requires { ⌜ (from ≤ to) × (to ≤ length (now page)) ⌝ }
-    ensures { λ r. ⌜ r ≡ Reader·told form from to (now (page .entry)) ⌝ }
+// A name, in 60 bytes, and the ports that stand behind it.
+fn told(form: u8, name: [u8; 60], behind: &[u8]) -> Name
+    ensures { λ r. ⌜ r ≡ Reader·told form name (now (behind .entry)) ⌝ }
 {
-    let behind = &page[to..];
     let relative = relative_in(behind);
     let sas = behind_relative(behind, relative);
     if !sas_or_nothing(sas) {
@@ -168,7 +169,7 @@ fn told(form: u8, from: usize, to: usize, page: &[u8]) -> Name
     Name {
         number: 0,
         form,
-        name: in_sixty(&page[from..to]),
+        name,
         ports: ports_of(relative, sas.len() != 0),
         address: address_of(sas),
     }
@@ -182,10 +183,10 @@ pub fn read(page: &[u8]) -> Name
         return refused();
     }
     if names_drive(page) {
-        return told(1, 8, 16, page);
+        return told(1, in_sixty(rules::part(page, 8, 16)), &page[16..]);
     }
     if tells_texts(page) {
-        return told(2, 16, 76, page);
+        return told(2, in_sixty(rules::part(page, 16, 76)), &page[76..]);
     }
     refused()
 }

@@ -80,14 +80,22 @@ fn put_code(sense: &mut [u8], form: u8, key: u8, asc: u8, ascq: u8)
     put_descriptor_code(sense, key, asc, ascq);
 }
 
-// Key, ASC and ASCQ of a refusal, and zeros for a number past the array.
+// The row of a number: a number past the table answers as 0 does.
+fn row(number: u8) -> u8
+    ensures inside { λ r. ⌜ r < 20 ⌝ }
+    ensures same { λ r. ⌜ rowOf r ≡ rowOf number ⌝ }
+{
+    if number < 20 {
+        return number;
+    }
+    0
+}
+
+// Key, ASC and ASCQ of a refusal.
 fn code(number: u8) -> [u8; 3]
     ensures { λ r. ⌜ r ≡ threeBytes (rowOf number) ⌝ }
 {
-    if number < 20 {
-        return TABLE[number as usize];
-    }
-    [0x00, 0x00, 0x00]
+    TABLE[row(number) as usize]
 }
 
 // What a refusal answers: it writes the sense bytes of its row, or nothing, and gives the row's status.

@@ -7,7 +7,7 @@ use lib.ListN.{length}
 use lib.Seq.{length-take-le}
 use borrow.Author.Tests.{eq-eqb, ne-eqb, lt-ltb, le-ltb}
 use Rattle.room.proofs.Laws.{cut}
-use Rattle.sense.specs.Refusal.{rowOf}
+use Rattle.sense.specs.Refusal.{rowOf, refusedSense}
 use Rattle.inquiry_checks.specs.Request.{Request, request, isPacket, passesThrough}
 use Rattle.inquiry_checks.specs.Asked.{page, toWrite}
 use Rattle.inquiry_checks.specs.Checks.{refusalOf}
@@ -85,17 +85,10 @@ size-requires c κs =
 lesser-requires-2 : tie.Need-lesser-requires-2
 lesser-requires-2 c κs = search needs
 
-refuse-requires-2 : tie.Need-refuse-requires-2
-unfolding rowOf
-refuse-requires-2 c κs = λ h. absurd (h refl)
-
-same-length-2 : tie.Need-same-length-2
-same-length-2 c = search needs
-
 returns-3 : tie.Need-returns-3
-unfolding inquiry
+unfolding inquiry rowOf refusedSense
 returns-3 c =
-    rw (late (c .before .before .before .before .before .before .before .before .before .before .before), served-here (c .before .before .before .before .before .before .before), ← n-is (c .before .before .before .before .before), lt-ltb _ _ (c .before .before .before .before .if3 .taken), c .before .before .refuse2 .ensures .0, c .before .before .refuse2 .ensures .1)
+    rw (late (c .before .before .before .before .before .before .before), served-here (c .before .before .before), ← n-is (c .before), lt-ltb _ _ (c .if3 .taken))
 
 slice-relend-prefix-put-page : tie.Need-slice-relend-prefix-put-page
 slice-relend-prefix-put-page c = search needs
@@ -107,8 +100,8 @@ slice-aggregate-put-page c =
 put-page-requires : tie.Need-put-page-requires
 put-page-requires c κs = here (c .before .before .before .before .before .before .before .before) .servable (served-here (c .before .before .before .before))
 
-same-length-3 : tie.Need-same-length-3
-same-length-3 c = search needs
+same-length-2 : tie.Need-same-length-2
+same-length-2 c = search needs
 
 returns-4 : tie.Need-returns-4
 unfolding inquiry
@@ -132,11 +125,9 @@ inquiry-spec =
     returns-2
     size-requires
     lesser-requires-2
-    refuse-requires-2
-    same-length-2
     returns-3
     slice-relend-prefix-put-page
     slice-aggregate-put-page
     put-page-requires
-    same-length-3
+    same-length-2
     returns-4)

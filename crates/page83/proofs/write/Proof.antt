@@ -1,9 +1,11 @@
--- `write`: the checks in order, then the page.
+-- `write`: the checks in order, then the page of its form, and the ports.
 use mathlib.Core.Path.{_∙_, sym}
 use Prim.Native.Nat.{_+_}
-use borrow.Author.Tests.{eq-eqb, ne-eqb, lt-ltb, le-ltb}
+use native.Mathlib.Omega.{arith}
+use borrow.Author.Tests.{eq-eqb, ne-eqb}
+use Rattle.room.proofs.Laws.{beside}
 use Rattle.page83.specs.Page83.{refusalOf, write}
-use Rattle.page83.proofs.Laws.{page-size}
+use Rattle.page83.proofs.Laws.{page-size, named-page, unnamed-page, named-end, unnamed-end, too-little, enough}
 use borrow.Author.Needs.{needs}
 use Rattle.page83.proofs.write.Statement.{statement}
 use Rattle.page83.proofs.write.Tie as tie
@@ -45,25 +47,41 @@ returns-4 : tie.Need-returns-4
 unfolding refusalOf write
 returns-4 c = rw (c .wrote4 .ensures, eq-eqb _ _ (c .before .before .before .before .before .before .before .if1 .left), sym (c .before .before .before .before .before .before .wrong-address .ensures) ∙ c .before .before .before .before .before .if2 .left, sym (c .before .before .before .before .damaged .ensures) ∙ c .before .before .before .if3 .left, sym (c .before .before .wrong-port .ensures) ∙ c .before .if4 .taken)
 
+size-requires : tie.Need-size-requires
+size-requires c κs = search needs
+
 carries-name-requires : tie.Need-carries-name-requires
 carries-name-requires c κs = search needs
 
-size-of-requires : tie.Need-size-of-requires
-size-of-requires c κs = search needs
+cast-size : tie.Need-cast-size
+cast-size c = search needs
+
+add-size : tie.Need-add-size
+add-size c = search needs
 
 wrote-requires-5 : tie.Need-wrote-requires-5
 wrote-requires-5 c κs = search needs
 
 returns-5 : tie.Need-returns-5
-unfolding refusalOf write
 returns-5 c =
-    let a = c .before .before .before .before .before .before .before .before .before .before .before .before .before .before .args in
-    let right = sym (c .before .before .before .before .before .before .before .before .before .wrong-address .ensures) ∙ c .before .before .before .before .before .before .before .before .if2 .left in
-    let size = page-size (a .block .now) (a .ports) (a .address .now) (c .before .before .before .before .before .before .before .before .before .before .if1 .left) right ∙ sym (rw (c .before .before .before .carries-name .ensures) at (c .before .before .size-of .ensures)) in
-    rw (c .wrote5 .ensures, eq-eqb _ _ (c .before .before .before .before .before .before .before .before .before .before .if1 .left), right, sym (c .before .before .before .before .before .before .before .damaged .ensures) ∙ c .before .before .before .before .before .before .if3 .left, sym (c .before .before .before .before .before .wrong-port .ensures) ∙ c .before .before .before .before .if4 .left, size, lt-ltb _ _ (c .before .if5 .taken))
+    let a = c .before .before .before .before .before .before .before .before .before .before .before .before .before .before .before .args in
+    let form = sym (c .before .before .before .carries-name .ensures) ∙ c .before .before .if5 .taken in
+    let grown = c .before .before .before .before .size .ensures .0 in
+    let port = sym (c .before .before .before .before .before .before .wrong-port .ensures) ∙ c .before .before .before .before .before .if4 .left in
+    let passes = sym (c .before .before .before .before .before .before .before .before .damaged .ensures) ∙ c .before .before .before .before .before .before .before .if3 .left in
+    let right = sym (c .before .before .before .before .before .before .before .before .before .before .wrong-address .ensures) ∙ c .before .before .before .before .before .before .before .before .before .if2 .left in
+    let whole = c .before .before .before .before .before .before .before .before .before .before .before .if1 .left in
+    let size = rw (form, ← grown) at (page-size (a .block .now) (a .ports) (a .address .now) whole right) in
+    rw (c .wrote5 .ensures) (sym (too-little (a .block .now) (a .ports) (a .address .now) (a .room .now) whole right passes port size (c .before .if6 .taken)))
 
-put-page-requires : tie.Need-put-page-requires
-put-page-requires c κs = (c .before .before .before .before .before .before .before .before .before .before .if1 .left, (sym (c .before .before .before .carries-name .ensures), sym (c .before .before .before .before .before .before .before .before .before .wrong-address .ensures) ∙ c .before .before .before .before .before .before .before .before .if2 .left))
+add-store-name : tie.Need-add-store-name
+add-store-name c = search needs
+
+store-name-requires : tie.Need-store-name-requires
+store-name-requires c κs = search needs
+
+store-ports-requires : tie.Need-store-ports-requires
+store-ports-requires c κs = (sym (c .before .before .before .before .before .before .before .before .before .before .before .before .before .before .wrong-address .ensures) ∙ c .before .before .before .before .before .before .before .before .before .before .before .before .before .if2 .left, omega arith)
 
 wrote-requires-6 : tie.Need-wrote-requires-6
 wrote-requires-6 c κs = search needs
@@ -72,12 +90,68 @@ same-length : tie.Need-same-length
 same-length c = search needs
 
 returns-6 : tie.Need-returns-6
-unfolding refusalOf write
 returns-6 c =
-    let a = c .before .before .before .before .before .before .before .before .before .before .before .before .before .before .before .before .before .before .args in
-    let right = sym (c .before .before .before .before .before .before .before .before .before .before .before .before .before .wrong-address .ensures) ∙ c .before .before .before .before .before .before .before .before .before .before .before .before .if2 .left in
-    let size = page-size (a .block .now) (a .ports) (a .address .now) (c .before .before .before .before .before .before .before .before .before .before .before .before .before .before .if1 .left) right ∙ sym (rw (c .before .before .before .before .before .before .before .carries-name .ensures) at (c .before .before .before .before .before .before .size-of .ensures)) in
-    rw (c .wrote6 .ensures, eq-eqb _ _ (c .before .before .before .before .before .before .before .before .before .before .before .before .before .before .if1 .left), right, sym (c .before .before .before .before .before .before .before .before .before .before .before .damaged .ensures) ∙ c .before .before .before .before .before .before .before .before .before .before .if3 .left, sym (c .before .before .before .before .before .before .before .before .before .wrong-port .ensures) ∙ c .before .before .before .before .before .before .before .before .if4 .left, size, le-ltb _ _ (c .before .before .before .before .before .if5 .left), c .before .before .before .put-page .ensures .leaves)
+    let a = c .before .before .before .before .before .before .before .before .before .before .before .before .before .before .before .before .before .before .before .before .before .before .before .args in
+    let form = sym (c .before .before .before .before .before .before .before .before .before .before .before .carries-name .ensures) ∙ c .before .before .before .before .before .before .before .before .before .before .if5 .taken in
+    let grown = c .before .before .before .before .before .before .before .before .before .before .before .before .size .ensures .0 in
+    let port = sym (c .before .before .before .before .before .before .before .before .before .before .before .before .before .before .wrong-port .ensures) ∙ c .before .before .before .before .before .before .before .before .before .before .before .before .before .if4 .left in
+    let passes = sym (c .before .before .before .before .before .before .before .before .before .before .before .before .before .before .before .before .damaged .ensures) ∙ c .before .before .before .before .before .before .before .before .before .before .before .before .before .before .before .if3 .left in
+    let right = sym (c .before .before .before .before .before .before .before .before .before .before .before .before .before .before .before .before .before .before .wrong-address .ensures) ∙ c .before .before .before .before .before .before .before .before .before .before .before .before .before .before .before .before .before .if2 .left in
+    let whole = c .before .before .before .before .before .before .before .before .before .before .before .before .before .before .before .before .before .before .before .if1 .left in
+    let size = rw (form, ← grown) at (page-size (a .block .now) (a .ports) (a .address .now) whole right) in
+    let page = named-page (a .block .now) (a .ports) (a .address .now) whole right form in
+    let both = beside (c .before .before .before .before .before .before .before .store-name .ensures) (c .before .before .before .store-ports .ensures) (named-end (a .block .now) whole) in
+    rw (c .wrote6 .ensures, both .leaves, grown, ← page) (sym (rw grown at (enough (a .block .now) (a .ports) (a .address .now) (a .room .now) whole right passes port size (c .before .before .before .before .before .before .before .before .before .if6 .left))))
+
+cast-size-2 : tie.Need-cast-size-2
+cast-size-2 c = search needs
+
+add-size-2 : tie.Need-add-size-2
+add-size-2 c = search needs
+
+wrote-requires-7 : tie.Need-wrote-requires-7
+wrote-requires-7 c κs = search needs
+
+returns-7 : tie.Need-returns-7
+returns-7 c =
+    let a = c .before .before .before .before .before .before .before .before .before .before .before .before .before .before .before .args in
+    let form = sym (c .before .before .before .carries-name .ensures) ∙ c .before .before .if5 .left in
+    let grown = c .before .before .before .before .size .ensures .0 in
+    let port = sym (c .before .before .before .before .before .before .wrong-port .ensures) ∙ c .before .before .before .before .before .if4 .left in
+    let passes = sym (c .before .before .before .before .before .before .before .before .damaged .ensures) ∙ c .before .before .before .before .before .before .before .if3 .left in
+    let right = sym (c .before .before .before .before .before .before .before .before .before .before .wrong-address .ensures) ∙ c .before .before .before .before .before .before .before .before .before .if2 .left in
+    let whole = c .before .before .before .before .before .before .before .before .before .before .before .if1 .left in
+    let size = rw (form, ← grown) at (page-size (a .block .now) (a .ports) (a .address .now) whole right) in
+    rw (c .wrote7 .ensures) (sym (too-little (a .block .now) (a .ports) (a .address .now) (a .room .now) whole right passes port size (c .before .if7 .taken)))
+
+add-store-texts : tie.Need-add-store-texts
+add-store-texts c = search needs
+
+store-texts-requires : tie.Need-store-texts-requires
+store-texts-requires c κs = search needs
+
+store-ports-requires-2 : tie.Need-store-ports-requires-2
+store-ports-requires-2 c κs = (sym (c .before .before .before .before .before .before .before .before .before .before .before .before .before .before .wrong-address .ensures) ∙ c .before .before .before .before .before .before .before .before .before .before .before .before .before .if2 .left, omega arith)
+
+wrote-requires-8 : tie.Need-wrote-requires-8
+wrote-requires-8 c κs = search needs
+
+same-length-2 : tie.Need-same-length-2
+same-length-2 c = search needs
+
+returns-8 : tie.Need-returns-8
+returns-8 c =
+    let a = c .before .before .before .before .before .before .before .before .before .before .before .before .before .before .before .before .before .before .before .before .before .before .before .args in
+    let form = sym (c .before .before .before .before .before .before .before .before .before .before .before .carries-name .ensures) ∙ c .before .before .before .before .before .before .before .before .before .before .if5 .left in
+    let grown = c .before .before .before .before .before .before .before .before .before .before .before .before .size .ensures .0 in
+    let port = sym (c .before .before .before .before .before .before .before .before .before .before .before .before .before .before .wrong-port .ensures) ∙ c .before .before .before .before .before .before .before .before .before .before .before .before .before .if4 .left in
+    let passes = sym (c .before .before .before .before .before .before .before .before .before .before .before .before .before .before .before .before .damaged .ensures) ∙ c .before .before .before .before .before .before .before .before .before .before .before .before .before .before .before .if3 .left in
+    let right = sym (c .before .before .before .before .before .before .before .before .before .before .before .before .before .before .before .before .before .before .wrong-address .ensures) ∙ c .before .before .before .before .before .before .before .before .before .before .before .before .before .before .before .before .before .if2 .left in
+    let whole = c .before .before .before .before .before .before .before .before .before .before .before .before .before .before .before .before .before .before .before .if1 .left in
+    let size = rw (form, ← grown) at (page-size (a .block .now) (a .ports) (a .address .now) whole right) in
+    let page = unnamed-page (a .block .now) (a .ports) (a .address .now) whole right form in
+    let both = beside (c .before .before .before .before .before .before .before .store-texts .ensures) (c .before .before .before .store-ports2 .ensures) (unnamed-end (a .block .now) whole) in
+    rw (c .wrote8 .ensures, both .leaves, grown, ← page) (sym (rw grown at (enough (a .block .now) (a .ports) (a .address .now) (a .room .now) whole right passes port size (c .before .before .before .before .before .before .before .before .before .if7 .left))))
 
 pub write-spec : {M : Type 1} → statement M
 write-spec =
@@ -94,11 +168,25 @@ write-spec =
     wrong-port-requires
     wrote-requires-4
     returns-4
+    size-requires
     carries-name-requires
-    size-of-requires
+    cast-size
+    add-size
     wrote-requires-5
     returns-5
-    put-page-requires
+    add-store-name
+    store-name-requires
+    store-ports-requires
     wrote-requires-6
     same-length
-    returns-6)
+    returns-6
+    cast-size-2
+    add-size-2
+    wrote-requires-7
+    returns-7
+    add-store-texts
+    store-texts-requires
+    store-ports-requires-2
+    wrote-requires-8
+    same-length-2
+    returns-8)
