@@ -1,30 +1,19 @@
 -- The table's rows: each rule is proved at all rows by one test that is computed.
 use mathlib.Core.Path.{_≡_, refl, sym, ap, _∙_}
 use mathlib.Core.Bool.{Bool, true, false, cond, _&&_, and-eq-true-iff}
-use mathlib.Core.List.{List, [], _∷_}
+use mathlib.Core.List.{List}
 use mathlib.Core.Logic.{⊎-elim}
 use Prim.Native.Nat.{ℕ, zero, suc, _-_, _≤_, _<_}
-use native.Mathlib.Nat.{eq-zero-or-pos, not-suc-le-zero, le-of-suc-le-suc}
+use native.Mathlib.Nat.{eq-zero-or-pos, not-suc-le-zero}
 use native.Mathlib.Omega.{arith}
 use lib.Dec.{eqb}
-use lib.ListN.{length, getD, List·getD-map, List·getD-eq-default}
+use lib.ListN.{List·getD-eq-default}
 use borrow.Author.Tests.{eqb-true, eq-eqb, ne-eqb}
 use Rattle.room.specs.Room.{written}
-use Rattle.sense.specs.Refusal.{table, noRow, rowOf, threeBytes, codes, refusedSense, noStatus, busy, checkCondition}
+use Rattle.sense.specs.Refusal.{table, noRow, rowOf, refusedSense, noStatus, busy, checkCondition}
 use Rattle.sense.specs.Sense.{senseData, nothing}
 
--- Inside a list the default does not matter.
-inside : {A : Type 0} (l : List A) (n : ℕ) (a b : A) → n < length l → getD l n a ≡ getD l n b
-inside [] n a b h = absurd (not-suc-le-zero h)
-inside (x ∷ l) zero a b h = refl
-inside (x ∷ l) (suc n) a b h = inside l n a b (le-of-suc-le-suc h)
-
--- The code's array is the last three columns of the table.
-pub code-within : (n : ℕ) → n < 20 → getD codes n [] ≡ threeBytes (rowOf n)
-unfolding rowOf
-code-within n h = inside codes n [] (threeBytes noRow) (omega (arith, h)) ∙ List·getD-map threeBytes table n noRow
-
--- Past it there is no row.
+-- Past the table there is no row.
 pub row-past : (n : ℕ) → 20 ≤ n → rowOf n ≡ noRow
 unfolding rowOf
 row-past n h = List·getD-eq-default table noRow {n = n} h

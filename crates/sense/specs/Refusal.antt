@@ -1,6 +1,6 @@
 -- The table of refusals: what each number answers (RULES 3).
 use mathlib.Core.Bool.{cond}
-use mathlib.Core.List.{List, [], _∷_, map}
+use mathlib.Core.List.{List, [], _∷_}
 use Prim.Native.Nat.{ℕ}
 use lib.Dec.{eqb}
 use lib.ListN.{getD}
@@ -84,9 +84,6 @@ rowOf number = getD table number noRow
 -- Key, ASC and ASCQ of a row, as three bytes; and those of every row, by number.
 abbrev pub threeBytes : Row → List ℕ
 threeBytes r = r .key ∷ r .asc ∷ r .ascq ∷ []
-
-abbrev pub codes : List (List ℕ)
-codes = map threeBytes table
 
 -- A row with a key writes its sense data, in the form that is asked for, at the front of the sense room; a row without one writes
 -- nothing.

@@ -80,22 +80,34 @@ fn put_code(sense: &mut [u8], form: u8, key: u8, asc: u8, ascq: u8)
     put_descriptor_code(sense, key, asc, ascq);
 }
 
-// The row of a number: a number past the table answers as 0 does.
-fn row(number: u8) -> u8
-    ensures inside { λ r. ⌜ r < 20 ⌝ }
-    ensures same { λ r. ⌜ rowOf r ≡ rowOf number ⌝ }
-{
-    if number < 20 {
-        return number;
-    }
-    0
-}
-
-// Key, ASC and ASCQ of a refusal.
+// Key, ASC and ASCQ of a refusal: its row of the array, and row 0 past it. Each index is a number that the compiler knows; where it
+// does not, it lays out the whole array on the stack.
 fn code(number: u8) -> [u8; 3]
     ensures { λ r. ⌜ r ≡ threeBytes (rowOf number) ⌝ }
 {
-    TABLE[row(number) as usize]
+    let rows = TABLE;
+    match number {
+        1 => rows[1],
+        2 => rows[2],
+        3 => rows[3],
+        4 => rows[4],
+        5 => rows[5],
+        6 => rows[6],
+        7 => rows[7],
+        8 => rows[8],
+        9 => rows[9],
+        10 => rows[10],
+        11 => rows[11],
+        12 => rows[12],
+        13 => rows[13],
+        14 => rows[14],
+        15 => rows[15],
+        16 => rows[16],
+        17 => rows[17],
+        18 => rows[18],
+        19 => rows[19],
+        _ => rows[0],
+    }
 }
 
 // What a refusal answers: it writes the sense bytes of its row, or nothing, and gives the row's status.
