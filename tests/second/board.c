@@ -5,7 +5,8 @@
  *
  * A batch:   u32 bytes that follow, then calls.
  * A call:    u32 bytes that follow; u8 function (bit 7: with the record that the last call left, not the one sent);
- *            u32 declared; u8 form; the record, 52 bytes; the intake, 4 bytes; u8 number of pieces; a piece: u32 size, its bytes.
+ *            u32 declared; u8 form; the record, 52 bytes; the intake, 4 bytes; the ports, 4 bytes; u8 number of pieces;
+ *            a piece: u32 size, its bytes.
  * An answer: u32 bytes that follow; u8 function; u8 guard (0: untouched); the fields of what came back, in the header's order;
  *            the record, 52 bytes; the bytes of every piece, the const ones too.
  * INTAKE_INQUIRY and INTAKE_ROLL are two functions each, one after the other, as a C program uses them: the second is lent what
@@ -23,11 +24,11 @@ enum { RECORD_EMPTY, INQUIRY, SUBMIT, COMPLETE, WRITE, READ, ROLL, INTAKE_EMPTY,
        CENSUS_EMPTY, CENSUS_FEED, FUNCTIONS };
 
 #define GUARD 64
-#define PIECES 7
+#define PIECES 8
 #define RECORD_GUARD 255
 #define BATCH_MOST (4u << 20)
 
-static const unsigned pieces_of[FUNCTIONS] = {0, 7, 3, 2, 2, 1, 2, 0, 2, 7, 4, 0, 2};
+static const unsigned pieces_of[FUNCTIONS] = {0, 8, 3, 2, 3, 1, 2, 0, 2, 8, 4, 0, 2};
 
 static uint8_t batch[BATCH_MOST];
 static uint8_t answers[4 * BATCH_MOST];
@@ -46,6 +47,7 @@ static struct {
 } piece[PIECES];
 
 static piongseut_intake intake;
+static piongseut_ports ports;
 static uint8_t form;
 static const uint8_t *in;
 static const uint8_t *in_end;
@@ -104,6 +106,12 @@ static void take_intake(void)
 {
     intake.have = (uint16_t)take(2);
     intake.sum = (uint16_t)take(2);
+}
+
+static void take_ports(void)
+{
+    ports.chosen = (uint16_t)take(2);
+    ports.relative = (uint16_t)take(2);
 }
 
 /* Whether a piece is 16-bit numbers: rows, what intakes have, or a census. */
@@ -187,6 +195,12 @@ static void put_intake(piongseut_intake of)
     put(of.sum, 2);
 }
 
+static void put_ports(piongseut_ports of)
+{
+    put(of.chosen, 2);
+    put(of.relative, 2);
+}
+
 static void put_count(uint8_t number, size_t count)
 {
     put(number, 1);
@@ -261,7 +275,7 @@ static void tell_stack(void)
 static void call_inquiry(void)
 {
     piongseut_inquiry_answer answer;
-    CALL(INQUIRY, answer = piongseut_inquiry(LENT(0), LENT(1), LENT(2), LENT(3), LENT(4), form, LENT(5), LENT(6)));
+    CALL(INQUIRY, answer = piongseut_inquiry(LENT(0), LENT(1), LENT(2), LENT(3), LENT(4), ports, LENT(5), form, LENT(6), LENT(7)));
     put_inquiry(answer);
 }
 
@@ -287,7 +301,7 @@ static void call_complete(void)
 static void call_write(void)
 {
     piongseut_write_page83_answer answer;
-    CALL(WRITE, answer = piongseut_write_page83(LENT(0), LENT(1)));
+    CALL(WRITE, answer = piongseut_write_page83(LENT(0), ports, LENT(1), LENT(2)));
     put_count(answer.number, answer.count);
 }
 
@@ -299,6 +313,9 @@ static void call_read(void)
     put(answer.form, 1);
     for (unsigned at = 0; at < sizeof answer.name; at++)
         put(answer.name[at], 1);
+    put_ports(answer.ports);
+    for (unsigned at = 0; at < sizeof answer.address; at++)
+        put(answer.address[at], 1);
 }
 
 static void call_roll(void)
@@ -331,8 +348,8 @@ static void call_intake_inquiry(void)
     piongseut_inquiry_answer answer = {PIONGSEUT_REFUSED_SIZE, PIONGSEUT_NONE, PIONGSEUT_SHOWN_ROOM, 0};
     CALL(INTAKE_INQUIRY, block = piongseut_intake_block(intake, piece[0].size));
     if (block.number == PIONGSEUT_ACCEPTED)
-        CALL(INQUIRY, answer = piongseut_inquiry(LENT(1), piece[0].at, block.count, LENT(2), LENT(3), LENT(4), form, LENT(5),
-                                                 LENT(6)));
+        CALL(INQUIRY, answer = piongseut_inquiry(LENT(1), piece[0].at, block.count, LENT(2), LENT(3), LENT(4), ports, LENT(5),
+                                                 form, LENT(6), LENT(7)));
     put_count(block.number, block.count);
     put_inquiry(answer);
 }
@@ -428,7 +445,7 @@ static void spoil(unsigned function)
     if (BOARD_FAULT == 1 && function == ROLL)
         piece[1].at[piece[1].size] ^= 1;
     if (BOARD_FAULT == 2 && function == INQUIRY)
-        piece[5].at[-1] ^= 1;
+        piece[6].at[-1] ^= 1;
     if (BOARD_FAULT == 3 && function == WRITE && piece[0].size > 0)
         piece[0].at[piece[0].size - 1] ^= 1;
     if (BOARD_FAULT == 4 && function == COMPLETE)
@@ -456,6 +473,7 @@ static void serve(void)
     form = (uint8_t)take(1);
     take_record(first & 0x80);
     take_intake();
+    take_ports();
     take_pieces(function);
     if (in != end)
         die("a call of a wrong size");

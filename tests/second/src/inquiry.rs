@@ -2,6 +2,7 @@
 
 use crate::identify::is_damaged;
 use crate::packet::is_packet_drive;
+use crate::ports::{self, Ports};
 use crate::sense::{stated, write_refusal};
 use crate::{fault, lent, packet, page83, pages, refusal};
 
@@ -36,6 +37,16 @@ enum Answer {
     Page(Vec<u8>),
 }
 
+/// What is told of a drive: what the caller lends to read but the command.
+struct Drive<'a> {
+    block: &'a [u8],
+    signature: &'a [u8],
+    texts: &'a [u8],
+    reply: &'a [u8],
+    ports: Ports,
+    address: &'a [u8],
+}
+
 /// Answers INQUIRY.
 pub fn inquiry(
     command: &[u8],
@@ -43,34 +54,66 @@ pub fn inquiry(
     signature: &[u8],
     texts: &[u8],
     reply: &[u8],
+    ports: Ports,
+    address: &[u8],
     form: u8,
     room: &mut [u8],
     sense: &mut [u8],
 ) -> Inquiry {
-    if fault::planted("damage-before-sizes") && is_damaged(block) {
-        return refuse(refusal::DAMAGED, form, sense);
-    }
-    if !sizes_are_right(block, signature, texts) || !lent::sense_size_is_right(form, sense) {
-        return refuse(refusal::SIZE, form, sense);
-    }
-    if block_is_refused(command, block, signature) {
-        return refuse(refusal::DAMAGED, form, sense);
-    }
-    if fault::planted("inquiry-refuses-all") {
-        return refuse(refusal::FIELD, form, sense);
-    }
-    let block = the_drive_answered_for(block);
-    let answer = read_command(command).and_then(|asked| {
-        if is_packet_drive(signature) {
-            packet_answer(&asked, block, signature, texts, reply)
-        } else {
-            plain_answer(&asked, block, signature, texts)
-        }
-    });
-    match answer {
+    let drive = Drive {
+        block: the_drive_answered_for(block),
+        signature,
+        texts,
+        reply,
+        ports,
+        address,
+    };
+    let answer = check_lent(command, &drive, form, sense).and_then(|()| answer(command, &drive));
+    match or_room_first(answer, command, room) {
         Err(number) => refuse(number, form, sense),
         Ok(Answer::Reply(count)) => accept(SHOWS_REPLY, count),
         Ok(Answer::Page(bytes)) => write(&bytes, room, form, sense),
+    }
+}
+
+/// 1 and 18: what is lent is of no use, whatever is asked (RULES 4).
+fn check_lent(command: &[u8], drive: &Drive, form: u8, sense: &[u8]) -> Result<(), u8> {
+    let damaged_first = is_damaged(drive.block) && fault::planted("damage-before-sizes");
+    let damaged_before_address =
+        is_damaged(drive.block) && fault::planted("ports-address-asked-after-damage");
+    let sizes = sizes_are_right(drive) && lent::sense_size_is_right(form, sense);
+    let address = address_is_right(command, drive) || damaged_before_address;
+    if !(sizes && address) && !damaged_first {
+        return Err(refusal::SIZE);
+    }
+    if block_is_refused(command, drive) {
+        return Err(refusal::DAMAGED);
+    }
+    Ok(())
+}
+
+/// The answer itself, but for a planted fault: short room is told before a port.
+fn or_room_first(answer: Result<Answer, u8>, command: &[u8], room: &[u8]) -> Result<Answer, u8> {
+    match answer {
+        Err(refusal::PORT) if fault::planted("ports-shown-room-first") => {
+            let allocation = read_command(command)?.allocation;
+            let short = room.len() < allocation.min(24);
+            Err(if short { refusal::ROOM } else { refusal::PORT })
+        }
+        _ => answer,
+    }
+}
+
+/// What the command asks for.
+fn answer(command: &[u8], drive: &Drive) -> Result<Answer, u8> {
+    if fault::planted("inquiry-refuses-all") {
+        return Err(refusal::FIELD);
+    }
+    let asked = read_command(command)?;
+    if is_packet_drive(drive.signature) {
+        packet_answer(&asked, drive)
+    } else {
+        plain_answer(&asked, drive)
     }
 }
 
@@ -84,20 +127,30 @@ fn the_drive_answered_for(block: &[u8]) -> &[u8] {
 
 /// 18: a damaged block answers for nothing, whatever is asked and of whatever
 /// drive (RULES 4). And the planted faults of that.
-fn block_is_refused(command: &[u8], block: &[u8], signature: &[u8]) -> bool {
+fn block_is_refused(command: &[u8], drive: &Drive) -> bool {
     if fault::planted("inquiry-takes-damage") {
         return false;
     }
     let unasked = (fault::planted("damage-after-the-empty-command") && command.is_empty())
-        || (fault::planted("damage-not-of-packet-drives") && is_packet_drive(signature));
-    is_damaged(block) && !unasked
+        || (fault::planted("damage-not-of-packet-drives") && is_packet_drive(drive.signature));
+    is_damaged(drive.block) && !unasked
+}
+
+/// A chosen address is asked whatever the command wants, and of whatever drive.
+/// And the planted faults of that.
+fn address_is_right(command: &[u8], drive: &Drive) -> bool {
+    let packet = || drive.signature.len() == 20 && is_packet_drive(drive.signature);
+    let unasked = (fault::planted("ports-address-not-of-packet-drives") && packet())
+        || (fault::planted("ports-address-of-page-83h-alone") && command.get(2) != Some(&0x83))
+        || (fault::planted("ports-address-filled-up") && drive.address.len() < 8);
+    unasked || ports::address_size_is_right(drive.ports, drive.address)
 }
 
 /// The reply and the output room may have any size (RULES 1).
-fn sizes_are_right(block: &[u8], signature: &[u8], texts: &[u8]) -> bool {
-    lent::block_size_is_right(block)
-        && lent::signature_size_is_right(signature)
-        && lent::texts_size_is_right(texts)
+fn sizes_are_right(drive: &Drive) -> bool {
+    lent::block_size_is_right(drive.block)
+        && lent::signature_size_is_right(drive.signature)
+        && lent::texts_size_is_right(drive.texts)
 }
 
 /// An opcode of another command is told before a missing byte, so a command
@@ -122,18 +175,30 @@ fn read_command(command: &[u8]) -> Result<Asked, u8> {
 }
 
 /// The answer for a drive that is not a packet drive.
-fn plain_answer(asked: &Asked, block: &[u8], signature: &[u8], texts: &[u8]) -> Result<Answer, u8> {
+fn plain_answer(asked: &Asked, drive: &Drive) -> Result<Answer, u8> {
+    check_port_sooner(asked, drive)?;
     check_fields(asked)?;
     check_page(asked)?;
-    check_block(asked, block)?;
+    check_block(asked, drive.block)?;
+    check_port(asked, drive.ports)?;
     let page = match (asked.evpd, asked.page_code) {
-        (false, _) => pages::standard_data(block),
+        (false, _) => pages::standard_data(drive.block),
         (true, 0x00) => pages::page00(),
-        (true, 0x80) => pages::page80(block),
-        (true, 0x83) => page83::page83(block),
-        (true, _) => pages::page89(block, signature, texts, false),
+        (true, 0x80) => pages::page80(drive.block),
+        (true, 0x83) => page83::page83(drive.block, drive.ports, drive.address),
+        (true, _) => pages::page89(drive.block, drive.signature, drive.texts, false),
     };
-    Ok(cut(page, asked))
+    Ok(cut(with_whole_ports(page, asked, drive), asked))
+}
+
+/// The page itself, but for a planted fault: ports that the host takes no whole
+/// page of are left out.
+fn with_whole_ports(page: Vec<u8>, asked: &Asked, drive: &Drive) -> Vec<u8> {
+    let is_cut = asked.page_code == 0x83 && page.len() > asked.allocation;
+    if is_cut && fault::planted("ports-cut-off-whole") {
+        return page83::page83(drive.block, Ports::default(), &[]);
+    }
+    page
 }
 
 /// 4: the fields ask for what the board never does (RULES 4).
@@ -161,25 +226,44 @@ fn check_block(asked: &Asked, block: &[u8]) -> Result<(), u8> {
     Ok(())
 }
 
+/// 19: page 83h is to tell a port that there is not (RULES 4).
+fn check_port(asked: &Asked, ports: Ports) -> Result<(), u8> {
+    let page83 = asked.evpd && asked.page_code == 0x83;
+    let everywhere = fault::planted("ports-number-asked-of-every-page");
+    let nowhere = fault::planted("ports-any-number-shown");
+    if (page83 || everywhere) && !nowhere && !ports::number_is_right(ports) {
+        return Err(refusal::PORT);
+    }
+    Ok(())
+}
+
+/// The planted faults of its place.
+fn check_port_sooner(asked: &Asked, drive: &Drive) -> Result<(), u8> {
+    let before_block = drive.block.is_empty() && check_fields(asked).is_ok();
+    if fault::planted("ports-number-before-4")
+        || fault::planted("ports-number-before-6") && before_block
+    {
+        return check_port(asked, drive.ports);
+    }
+    Ok(())
+}
+
 /// The answer for a packet drive (RULES 7): it speaks for itself, but for the
 /// two pages that the board makes; so its asks are not judged by 4 to 6.
-fn packet_answer(
-    asked: &Asked,
-    block: &[u8],
-    signature: &[u8],
-    texts: &[u8],
-    reply: &[u8],
-) -> Result<Answer, u8> {
+fn packet_answer(asked: &Asked, drive: &Drive) -> Result<Answer, u8> {
+    if fault::planted("ports-number-asked-of-packet-drives") {
+        check_port(asked, drive.ports)?;
+    }
     match (asked.evpd, asked.cmddt, asked.page_code) {
-        (true, false, 0x00) => match packet::page00(reply) {
+        (true, false, 0x00) => match packet::page00(drive.reply) {
             None => Err(refusal::UNUSABLE),
             Some(page) => Ok(cut(page, asked)),
         },
         (true, false, 0x89) => {
-            let page = pages::page89(block, signature, texts, true);
+            let page = pages::page89(drive.block, drive.signature, drive.texts, true);
             Ok(cut(page, asked))
         }
-        _ => Ok(Answer::Reply(reply.len().min(asked.allocation))),
+        _ => Ok(Answer::Reply(drive.reply.len().min(asked.allocation))),
     }
 }
 

@@ -17,6 +17,14 @@ pub fn texts_size_is_right(texts: &[u8]) -> bool {
     texts.len() == 28
 }
 
+/// A SAS address.
+pub fn address_size_is_right(address: &[u8]) -> bool {
+    (address.len() == 7 && fault::planted("ports-address-of-7-taken"))
+        || (address.len() == 9 && fault::planted("ports-address-of-9-taken"))
+        || (address.is_empty() && fault::planted("ports-address-of-0-taken"))
+        || address.len() == 8
+}
+
 /// It has to take the longest sense data there is, whatever form is stated;
 /// and no number of a form is a wrong one.
 pub fn sense_size_is_right(form: u8, sense: &[u8]) -> bool {

@@ -45,12 +45,15 @@ pub const NOT_A_PAGE: u8 = 16;
 pub const CENSUS: u8 = 17;
 /// The block's bytes are not those that the drive sent.
 pub const DAMAGED: u8 = 18;
+/// There is no such port.
+pub const PORT: u8 = 19;
 
 /// The column Status of the table.
 pub fn status(number: u8) -> u8 {
     match number {
         SIZE | ROOM | NOTHING_PENDING | NOT_A_PAGE | CENSUS | DAMAGED => NO_STATUS,
         PENDING => BUSY,
+        PORT if fault::planted("ports-number-without-status") => NO_STATUS,
         _ => CHECK_CONDITION,
     }
 }
@@ -69,6 +72,8 @@ pub fn key_asc_ascq(number: u8) -> Option<[u8; 3]> {
         T_DIR => Some([0x05, 0x24, 0x00]),
         LENGTH_ZERO => Some([0x05, 0x24, 0x00]),
         ABOVE_DECLARED => Some([0x05, 0x24, 0x00]),
+        PORT if fault::planted("ports-number-without-sense") => None,
+        PORT => Some([0x05, 0x24, 0x00]),
         DAMAGED if fault::planted("damage-told-in-sense") => Some([0x0B, 0x00, 0x00]),
         _ => None,
     }

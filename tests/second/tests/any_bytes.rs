@@ -4,7 +4,7 @@
 mod common;
 
 use common::*;
-use second::{read_page83, roll, write_page83};
+use second::{read_page83, roll};
 
 fn bytes(numbers: &mut Numbers, size: usize) -> Vec<u8> {
     (0..size).map(|_| numbers.byte()).collect()
@@ -83,7 +83,7 @@ fn pages_and_rolls_take_all() {
     for _ in 0..2000 {
         let block = piece(&mut numbers, &[512]);
         let mut room = vec![FILL; numbers.below(100)];
-        let written = write_page83(&block, &mut room);
+        let written = write_without_ports(&block, &mut room);
         assert!(is_filled(&room[written.count..]));
         read_page83(&piece(&mut numbers, &[16, 76]));
         let blocks = piece(&mut numbers, &[0, 512, 1536]);

@@ -4,7 +4,7 @@
 mod common;
 
 use common::*;
-use second::{gather, inquiry, roll, rollcall, write_page83, Counted, Roll, Written};
+use second::{gather, inquiry, roll, rollcall, Counted, Ports, Roll, Written};
 
 /// The block with A5h in byte 510, and the last byte so that all sum to 0.
 fn closed(mut block: [u8; 512]) -> [u8; 512] {
@@ -24,7 +24,7 @@ fn damaged() -> [u8; 512] {
 
 fn is_taken(block: &[u8]) -> bool {
     let mut room = [FILL; 90];
-    let written = write_page83(block, &mut room);
+    let written = write_without_ports(block, &mut room);
     assert!(written.number == 0 || written.number == 18);
     if written.number == 18 {
         assert_eq!(written.count, 0);
@@ -135,6 +135,8 @@ fn inquiry_18_tells_nothing() {
         &PLAIN,
         &texts(),
         &[],
+        Ports::default(),
+        &[],
         0,
         &mut room,
         &mut sense,
@@ -152,7 +154,7 @@ fn writer_18_before_8() {
             number: 18,
             count: 0,
         };
-        assert_eq!(write_page83(&damaged(), &mut room), wanted);
+        assert_eq!(write_without_ports(&damaged(), &mut room), wanted);
         assert!(is_filled(&room));
     }
 }

@@ -3,17 +3,19 @@
 mod common;
 
 use common::*;
-use second::{read_page83, write_page83, Name};
+use second::{read_page83, Name};
 
 const REFUSED: Name = Name {
     number: 16,
     form: 0,
     name: [0; 60],
+    ports: NO_PORTS,
+    address: [0; 8],
 };
 
 fn page_of(block: &[u8]) -> Vec<u8> {
     let mut room = [FILL; 90];
-    let written = write_page83(block, &mut room);
+    let written = write_without_ports(block, &mut room);
     assert_eq!(written.number, 0);
     assert!(
         is_filled(&room[written.count..]),
@@ -53,7 +55,9 @@ fn reads_a_name() {
         Name {
             number: 0,
             form: 1,
-            name
+            name,
+            ports: NO_PORTS,
+            address: [0; 8]
         }
     );
 }
@@ -67,7 +71,9 @@ fn reads_a_text() {
         Name {
             number: 0,
             form: 2,
-            name: text
+            name: text,
+            ports: NO_PORTS,
+            address: [0; 8]
         }
     );
 }
@@ -81,7 +87,9 @@ fn reads_zero_bytes_of_a_text_as_spaces() {
         Name {
             number: 0,
             form: 2,
-            name: [0x20; 60]
+            name: [0x20; 60],
+            ports: NO_PORTS,
+            address: [0; 8]
         }
     );
 }

@@ -4,7 +4,7 @@
 mod common;
 
 use common::*;
-use second::{write_page83, Record, Written};
+use second::{Record, Written};
 
 #[test]
 fn inquiry_1_before_all() {
@@ -223,7 +223,7 @@ fn completion_1_before_15() {
 #[test]
 fn writer_1_before_8() {
     assert_eq!(
-        write_page83(&[0; 511], &mut []),
+        write_without_ports(&[0; 511], &mut []),
         Written {
             number: 1,
             count: 0

@@ -3,7 +3,7 @@
 mod common;
 
 use common::*;
-use second::{read_page83, roll, write_page83, Record, Written};
+use second::{read_page83, roll, Record, Written};
 
 const PAGE_83: [u8; 6] = [0x12, 0x01, 0x83, 0x00, 0xFF, 0x00];
 
@@ -27,7 +27,7 @@ fn row_1_inquiry_sizes() {
 
 fn page_of_block_0() -> Vec<u8> {
     let mut room = [0; 16];
-    write_page83(&block_0(), &mut room);
+    write_without_ports(&block_0(), &mut room);
     room.to_vec()
 }
 
@@ -59,7 +59,7 @@ fn row_1_completion_sizes() {
 fn row_1_writer_block() {
     for size in [0, 511, 513] {
         let mut room = [FILL; 80];
-        let written = write_page83(&vec![0; size], &mut room);
+        let written = write_without_ports(&vec![0; size], &mut room);
         assert_eq!(
             written,
             Written {
@@ -209,7 +209,7 @@ fn row_8_writer() {
         for less in 0..size {
             let mut room = vec![FILL; less];
             assert_eq!(
-                write_page83(&block, &mut room),
+                write_without_ports(&block, &mut room),
                 Written {
                     number: 8,
                     count: 0
@@ -219,7 +219,7 @@ fn row_8_writer() {
         }
         let mut room = vec![FILL; size];
         assert_eq!(
-            write_page83(&block, &mut room),
+            write_without_ports(&block, &mut room),
             Written {
                 number: 0,
                 count: size

@@ -3,7 +3,7 @@
 mod common;
 
 use common::*;
-use second::{roll, rollcall, write_page83, Roll};
+use second::{roll, rollcall, Roll};
 
 fn rows_of(blocks: &[[u8; 512]]) -> (Vec<u16>, u16) {
     let mut rows = vec![77; blocks.len() + 2];
@@ -189,6 +189,6 @@ fn some_block(numbers: &mut Numbers) -> [u8; 512] {
 
 fn page_of(block: &[u8]) -> Vec<u8> {
     let mut room = [0; 76];
-    let written = write_page83(block, &mut room);
+    let written = write_without_ports(block, &mut room);
     room[..written.count].to_vec()
 }

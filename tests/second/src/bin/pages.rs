@@ -41,6 +41,8 @@ fn line(
         signature,
         texts,
         &[],
+        second::Ports::default(),
+        &[],
         second::sense::UNSTATED,
         &mut room,
         &mut sense,

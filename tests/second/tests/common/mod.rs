@@ -2,7 +2,9 @@
 
 #![allow(dead_code)]
 
-use second::{complete, inquiry, submit, Ended, Inquiry, Order, Record, Taken};
+use second::{
+    complete, inquiry, submit, write_page83, Ended, Inquiry, Order, Ports, Record, Taken, Written,
+};
 
 /// Fills lent room before a call, so that a written byte is seen.
 pub const FILL: u8 = 0xA5;
@@ -58,6 +60,17 @@ pub fn text_block() -> [u8; 512] {
     block
 }
 
+/// No port is chosen.
+pub const NO_PORTS: Ports = Ports {
+    chosen: 0,
+    relative: 0,
+};
+
+/// Writes page 83h with the name alone.
+pub fn write_without_ports(block: &[u8], room: &mut [u8]) -> Written {
+    write_page83(block, NO_PORTS, &[], room)
+}
+
 /// The pieces lent to INQUIRY. `room` and `sense` are sizes. The checks are
 /// made in each form, whatever `form` is.
 #[derive(Clone)]
@@ -67,6 +80,8 @@ pub struct Ask {
     pub signature: Vec<u8>,
     pub texts: Vec<u8>,
     pub reply: Vec<u8>,
+    pub ports: Ports,
+    pub address: Vec<u8>,
     pub form: u8,
     pub room: usize,
     pub sense: usize,
@@ -81,6 +96,8 @@ impl Ask {
             signature: PLAIN.to_vec(),
             texts: texts().to_vec(),
             reply: Vec::new(),
+            ports: NO_PORTS,
+            address: Vec::new(),
             form: 0,
             room: 600,
             sense: 30,
@@ -105,6 +122,12 @@ impl Ask {
 
     pub fn texts(mut self, texts: &[u8]) -> Ask {
         self.texts = texts.to_vec();
+        self
+    }
+
+    pub fn ports(mut self, chosen: u16, relative: u16, address: &[u8]) -> Ask {
+        self.ports = Ports { chosen, relative };
+        self.address = address.to_vec();
         self
     }
 
@@ -136,6 +159,8 @@ impl Ask {
             &self.signature,
             &self.texts,
             &self.reply,
+            self.ports,
+            &self.address,
             self.form,
             &mut room,
             &mut sense,
@@ -376,6 +401,7 @@ pub fn row(number: u8) -> (u8, Option<[u8; 3]>) {
         15 => (0xFF, None),
         16 => (0xFF, None),
         18 => (0xFF, None),
+        19 => (0x02, Some([0x05, 0x24, 0x00])),
         _ => panic!("no such row"),
     }
 }

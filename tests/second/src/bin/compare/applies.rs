@@ -17,14 +17,14 @@ pub const PAIRS: [(u8, &[(usize, usize)]); 8] = [
     (INQUIRY, &IN_INQUIRY),
     (SUBMIT, &IN_SUBMIT),
     (COMPLETE, &[(1, 15)]),
-    (WRITE, &[(1, 8), (8, 18)]),
+    (WRITE, &[(1, 8), (8, 18), (1, 19), (8, 19), (18, 19)]),
     (ROLL, &[(1, 18)]),
     (INTAKE_INQUIRY, &IN_INQUIRY),
     (INTAKE_ROLL, &[(1, 8), (1, 18), (8, 18)]),
     (CENSUS_FEED, &[(1, 17), (17, 18)]),
 ];
 
-const IN_INQUIRY: [(usize, usize); 19] = [
+const IN_INQUIRY: [(usize, usize); 24] = [
     (1, 2),
     (1, 3),
     (1, 4),
@@ -44,6 +44,11 @@ const IN_INQUIRY: [(usize, usize); 19] = [
     (5, 18),
     (7, 18),
     (8, 18),
+    (1, 19),
+    (4, 19),
+    (6, 19),
+    (8, 19),
+    (18, 19),
 ];
 
 const IN_SUBMIT: [(usize, usize); 25] = [
@@ -79,14 +84,15 @@ fn set(conditions: &[(usize, bool)]) -> Set {
     held.fold(0, |set, (number, _)| set | 1 << number)
 }
 
-/// The refusal that answers: 1, then 17 and 18, then the lowest number; 2 and 3
-/// never apply together.
+/// The refusal that answers: 1, then 17 and 18, then the lowest number, with 19
+/// behind 6; 2 and 3 never apply together.
 pub fn first(set: Set) -> u32 {
     match set {
         0 => 0,
         _ if set >> 1 & 1 == 1 => 1,
         _ if set >> 17 & 1 == 1 => 17,
         _ if set >> 18 & 1 == 1 => 18,
+        _ if set >> 19 & 1 == 1 && set & 0b111_1110 == 0 => 19,
         _ => set.trailing_zeros(),
     }
 }
@@ -108,11 +114,12 @@ pub fn to(call: &Call) -> Set {
             (15, call.record.state == 0),
         ]),
         WRITE => {
-            let size = page83_size(&call.pieces[0]);
+            let size = page83_size(call, &call.pieces[0]);
             set(&[
-                (1, sizes[0] != 512),
+                (1, sizes[0] != 512 || address_is_refused(call, sizes[1])),
                 (18, is_damaged(&call.pieces[0])),
-                (8, sizes[1] < size),
+                (19, port_is_refused(call)),
+                (8, sizes[2] < size),
             ])
         }
         READ => set(&[(16, second::read_page83(&call.pieces[0]).number != 0)]),
@@ -160,7 +167,8 @@ fn to_its_block(call: &Call) -> Set {
         pieces[0].clear();
     }
     pieces.swap(0, 1);
-    to(&Call::new(INQUIRY, pieces))
+    let asked = Call::new(INQUIRY, pieces).ports(call.ports, &call.pieces[5]);
+    to(&asked)
 }
 
 /// What applies to the gathering, and where nothing does to the roll: there is
@@ -178,17 +186,26 @@ fn to_intakes(call: &Call, sizes: &[usize]) -> Set {
     set(&[(1, roll_is_refused(512 * complete, sizes[3] / 2))])
 }
 
-fn page83_size(block: &[u8]) -> usize {
-    if carries_name(block) {
-        16
-    } else {
-        76
-    }
+/// The page of the call's ports and a block, in bytes.
+fn page83_size(call: &Call, block: &[u8]) -> usize {
+    let name = if carries_name(block) { 16 } else { 76 };
+    name + [0, 8, 12, 20][usize::from(call.ports.chosen % 4)]
+}
+
+/// Whether an address is asked, and has another size than eight bytes.
+fn address_is_refused(call: &Call, size: usize) -> bool {
+    call.ports.chosen & 2 != 0 && size != 8
+}
+
+/// Whether a port is asked, and is neither the first nor the second.
+fn port_is_refused(call: &Call) -> bool {
+    call.ports.chosen & 1 != 0 && ![1, 2].contains(&call.ports.relative)
 }
 
 fn to_inquiry(call: &Call, sizes: &[usize]) -> Set {
     let wrong_block = sizes[1] != 0 && sizes[1] != 512;
-    let wrong_size = wrong_block || sizes[2] != 20 || sizes[3] != 28 || sizes[6] < 22;
+    let wrong_piece = wrong_block || sizes[2] != 20 || sizes[3] != 28 || sizes[7] < 22;
+    let wrong_size = wrong_piece || address_is_refused(call, sizes[5]);
     let command = &call.pieces[0];
     let opcode = command.first() == Some(&0x12);
     let before = set(&[
@@ -208,7 +225,7 @@ fn to_inquiry(call: &Call, sizes: &[usize]) -> Set {
         (false, _) => 36,
         (true, 0x00) => 8,
         (true, 0x80) => 24,
-        (true, 0x83) => page83_size(&call.pieces[1]),
+        (true, 0x83) => page83_size(call, &call.pieces[1]),
         (true, 0x89) => 572,
         _ => 0,
     };
@@ -220,7 +237,8 @@ fn to_inquiry(call: &Call, sizes: &[usize]) -> Set {
             (4, naca || cmddt || !evpd && page != 0),
             (5, evpd && !served),
             (6, call.pieces[1].is_empty() && with_block),
-            (8, sizes[5] < size.min(allocation(command))),
+            (19, evpd && page == 0x83 && port_is_refused(call)),
+            (8, sizes[6] < size.min(allocation(command))),
         ])
 }
 
@@ -236,7 +254,7 @@ fn to_packet(call: &Call) -> Set {
         (1, 0x89) => 572,
         _ => 0,
     };
-    let short = call.pieces[5].len() < size.min(allocation(command));
+    let short = call.pieces[6].len() < size.min(allocation(command));
     set(&[
         (7, asked == (1, 0x00) && list_size(reply).is_none()),
         (8, short),

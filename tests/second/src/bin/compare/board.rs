@@ -16,7 +16,7 @@ use std::sync::Arc;
 use std::thread::JoinHandle;
 
 /// Numbers below this one come back.
-pub const NUMBERS: usize = 19;
+pub const NUMBERS: usize = 20;
 /// A batch is sent when it has so many bytes.
 const BATCH: usize = 128 << 10;
 /// So many differences of a class are printed in full.

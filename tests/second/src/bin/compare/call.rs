@@ -1,7 +1,7 @@
 //! A call of one of the board's functions: its bytes on the way to the board,
 //! and what the second program answers, as the board would write it.
 
-use second::{Census, Counted, Ended, Inquiry, Intake, Order, Record, Roll};
+use second::{Census, Counted, Ended, Inquiry, Intake, Order, Ports, Record, Roll};
 
 pub const EMPTY: u8 = 0;
 pub const INQUIRY: u8 = 1;
@@ -45,12 +45,13 @@ pub const PIECES: [&[&str]; 13] = [
         "signature",
         "texts",
         "reply",
+        "address",
         "room",
         "sense",
     ],
     &["command", "registers", "sense"],
     &["registers", "sense"],
-    &["block", "room"],
+    &["block", "address", "room"],
     &["page"],
     &["blocks", "rows"],
     &[],
@@ -61,6 +62,7 @@ pub const PIECES: [&[&str]; 13] = [
         "signature",
         "texts",
         "reply",
+        "address",
         "room",
         "sense",
     ],
@@ -93,6 +95,8 @@ pub struct Call {
     pub form: Option<u8>,
     pub record: Record,
     pub intake: Intake,
+    /// The ports that page 83h is to tell; the address is a piece.
+    pub ports: Ports,
     pub pieces: Vec<Vec<u8>>,
 }
 
@@ -114,6 +118,7 @@ impl Call {
             form: None,
             record: Record::default(),
             intake: Intake::default(),
+            ports: Ports::default(),
             pieces,
         }
     }
@@ -125,6 +130,14 @@ impl Call {
 
     pub fn intake(mut self, intake: Intake) -> Call {
         self.intake = intake;
+        self
+    }
+
+    /// The call with these ports, of INQUIRY or of the writer.
+    pub fn ports(mut self, ports: Ports, address: &[u8]) -> Call {
+        let at = if self.function == WRITE { 1 } else { 5 };
+        self.ports = ports;
+        self.pieces[at] = address.to_vec();
         self
     }
 
@@ -152,6 +165,7 @@ impl Call {
         out.push(form);
         put_record(&self.record, out);
         put_intake(&self.intake, out);
+        put_ports(&self.ports, out);
         out.push(self.pieces.len() as u8);
         for piece in &self.pieces {
             out.extend((piece.len() as u32).to_le_bytes());
@@ -168,6 +182,7 @@ impl Call {
         let form = Some(from.number(1)? as u8);
         let record = from.record()?;
         let intake = from.intake()?;
+        let ports = from.ports()?;
         let count = from.number(1)? as usize;
         if PIECES.get(usize::from(function))?.len() != count {
             return None;
@@ -184,6 +199,7 @@ impl Call {
             form,
             record,
             intake,
+            ports,
             pieces,
         };
         from.0.is_empty().then_some(call)
@@ -226,15 +242,30 @@ impl Call {
 
     fn answer_inquiry(&self, form: u8, record: &Record, out: &mut Vec<u8>) -> u8 {
         let p = &self.pieces;
-        let (mut room, mut sense) = (p[5].clone(), p[6].clone());
-        let lent = (&mut room[..], &mut sense[..]);
-        let answer = second::inquiry(&p[0], &p[1], &p[2], &p[3], &p[4], form, lent.0, lent.1);
+        let (mut room, mut sense) = (p[6].clone(), p[7].clone());
+        let answer = self.inquiry(&p[0], &p[1], form, &mut room, &mut sense);
         put_inquiry(&answer, out);
         put_record(record, out);
-        p[..5].iter().for_each(|piece| out.extend(piece));
+        p[..6].iter().for_each(|piece| out.extend(piece));
         out.extend(&room);
         out.extend(&sense);
         answer.number
+    }
+
+    /// The second program's INQUIRY with this command, block and form, and all
+    /// else that is lent to read as the call has it.
+    pub fn inquiry(
+        &self,
+        command: &[u8],
+        block: &[u8],
+        form: u8,
+        room: &mut [u8],
+        sense: &mut [u8],
+    ) -> Inquiry {
+        let (p, ports) = (&self.pieces, self.ports);
+        second::inquiry(
+            command, block, &p[2], &p[3], &p[4], ports, &p[5], form, room, sense,
+        )
     }
 
     fn answer_submit(&self, form: u8, record: &mut Record, out: &mut Vec<u8>) -> u8 {
@@ -262,12 +293,14 @@ impl Call {
     }
 
     fn answer_write(&self, record: &Record, out: &mut Vec<u8>) -> u8 {
-        let mut room = self.pieces[1].clone();
-        let written = second::write_page83(&self.pieces[0], &mut room);
+        let p = &self.pieces;
+        let mut room = p[2].clone();
+        let written = second::write_page83(&p[0], self.ports, &p[1], &mut room);
         out.push(written.number);
         out.extend((written.count as u64).to_le_bytes());
         put_record(record, out);
-        out.extend(&self.pieces[0]);
+        out.extend(&p[0]);
+        out.extend(&p[1]);
         out.extend(&room);
         written.number
     }
@@ -276,6 +309,8 @@ impl Call {
         let name = second::read_page83(&self.pieces[0]);
         out.extend([name.number, name.form]);
         out.extend(name.name);
+        put_ports(&name.ports, out);
+        out.extend(name.address);
         put_record(record, out);
         out.extend(&self.pieces[0]);
         name.number
@@ -306,19 +341,18 @@ impl Call {
     /// INQUIRY with the bytes of the store that are the intake's block.
     fn answer_intake_inquiry(&self, form: u8, record: &Record, out: &mut Vec<u8>) -> u8 {
         let p = &self.pieces;
-        let (mut room, mut sense) = (p[5].clone(), p[6].clone());
+        let (mut room, mut sense) = (p[6].clone(), p[7].clone());
         let block = second::block_size(self.intake, p[0].len());
         let answer = if block.number == 0 {
             let block = &p[0][..block.count];
-            let lent = (&mut room[..], &mut sense[..]);
-            second::inquiry(&p[1], block, &p[2], &p[3], &p[4], form, lent.0, lent.1)
+            self.inquiry(&p[1], block, form, &mut room, &mut sense)
         } else {
             not_asked(block.number)
         };
         put_counted(&block, out);
         put_inquiry(&answer, out);
         put_record(record, out);
-        p[..5].iter().for_each(|piece| out.extend(piece));
+        p[..6].iter().for_each(|piece| out.extend(piece));
         out.extend(&room);
         out.extend(&sense);
         answer.number
@@ -443,6 +477,11 @@ fn put_intake(intake: &Intake, out: &mut Vec<u8>) {
     out.extend(intake.sum.to_le_bytes());
 }
 
+fn put_ports(ports: &Ports, out: &mut Vec<u8>) {
+    out.extend(ports.chosen.to_le_bytes());
+    out.extend(ports.relative.to_le_bytes());
+}
+
 fn put_counted(counted: &Counted, out: &mut Vec<u8>) {
     out.push(counted.number);
     out.extend((counted.count as u64).to_le_bytes());
@@ -514,6 +553,13 @@ impl<'a> Bytes<'a> {
         Some(Intake {
             have: self.number(2)? as u16,
             sum: self.number(2)? as u16,
+        })
+    }
+
+    pub fn ports(&mut self) -> Option<Ports> {
+        Some(Ports {
+            chosen: self.number(2)? as u16,
+            relative: self.number(2)? as u16,
         })
     }
 

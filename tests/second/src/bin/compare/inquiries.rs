@@ -35,8 +35,8 @@ pub fn refusals(board: &mut Board) {
                                 .piece(2, signature.clone())
                                 .piece(3, vec![0x33; texts])
                                 .piece(4, reply.to_vec())
-                                .piece(5, room(space))
-                                .piece(6, room(sense));
+                                .piece(6, room(space))
+                                .piece(7, room(sense));
                             board.call(&call);
                         }
                     }
@@ -49,12 +49,13 @@ pub fn refusals(board: &mut Board) {
 /// Sizes 0, 1, size - 1, size and size + 1 of each lent piece.
 pub fn sizes(board: &mut Board) {
     let reply = [0x05, 0x00, 0x00, 0x02, 0x00, 0x80];
-    let edges: [&[usize]; 7] = [
+    let edges: [&[usize]; 8] = [
         &[0, 1, 2, 3, 4, 5, 6, 7, 12, 16],
         &[0, 1, 2, 510, 511, 512, 513, 1024],
         &[0, 1, 5, 6, 7, 19, 20, 21, 40],
         &[0, 1, 27, 28, 29, 56],
         &[0, 1, 3, 4, 5, 6, 7, 255],
+        &[0, 7, 8, 9],
         &[0, 1, 7, 8, 9, 571, 572, 573],
         &[0, 1, 7, 8, 9, 20, 21, 22, 23, 64],
     ];
@@ -96,7 +97,7 @@ pub fn cuts(board: &mut Board) {
                 let call = lent::inquiry(&[0x12, evpd, page, high, low, 0]).piece(1, block.clone());
                 let n = allocation.min(size);
                 for space in [n.saturating_sub(1), n, n + 1] {
-                    board.call(&call.clone().piece(5, room(space)));
+                    board.call(&call.clone().piece(6, room(space)));
                 }
             }
         }
@@ -131,7 +132,7 @@ pub fn all_pages(board: &mut Board) {
                 for block in [Vec::new(), lent::text_block()] {
                     let command = [0x12, byte_1, page, 0x00, 0x20, control];
                     let call = lent::inquiry(&command).piece(1, block);
-                    let call = call.piece(5, room(40));
+                    let call = call.piece(6, room(40));
                     board.call(&packet(call.clone(), &reply));
                     board.call(&call);
                 }
@@ -205,7 +206,7 @@ pub fn first_word(board: &mut Board) {
         let pages: [[u8; 6]; 2] = [[0x12, 1, 0x89, 0, 8, 0], [0x12, 0, 0, 0, 8, 0]];
         for command in pages {
             let call = lent::inquiry(&command).piece(1, block.clone());
-            let call = call.piece(5, room(9));
+            let call = call.piece(6, room(9));
             board.call(&packet(call.clone(), &[1, 2, 3]));
             board.call(&call);
         }
@@ -221,7 +222,7 @@ pub fn signatures(board: &mut Board) {
             signature[at] = value;
             for page in [0x00, 0x89] {
                 let call = packet(lent::inquiry_page(page, 64), &reply);
-                let call = call.piece(2, signature.clone()).piece(5, room(65));
+                let call = call.piece(2, signature.clone()).piece(6, room(65));
                 board.call(&call);
             }
         }
@@ -240,7 +241,7 @@ pub fn passed(board: &mut Board) {
                 let command = [0x12, byte_1, page, high, low, 0x04];
                 let call = packet(lent::inquiry(&command), &reply);
                 board.call(&call.clone().piece(1, Vec::new()));
-                board.call(&call.piece(5, room(0)));
+                board.call(&call.piece(6, room(0)));
             }
         }
     }
@@ -281,10 +282,10 @@ fn ask_list(board: &mut Board, reply: &[u8]) {
     let size = 4 + reply.get(3).map_or(0, |&count| usize::from(count));
     for allocation in [0, 3, 4, 5, size - 1, size, size + 1, 0xFFFF] {
         let call = packet(lent::inquiry_page(0x00, allocation as u16), reply);
-        board.call(&call.clone().piece(5, room(262)));
+        board.call(&call.clone().piece(6, room(262)));
         let n = allocation.min(size + 1);
         for space in [n.saturating_sub(1), n] {
-            board.call(&call.clone().piece(5, room(space)).piece(1, vec![]));
+            board.call(&call.clone().piece(6, room(space)).piece(1, vec![]));
         }
     }
 }

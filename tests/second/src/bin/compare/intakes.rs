@@ -158,8 +158,8 @@ fn refusals_of(board: &mut Board, have: u16, store: Vec<u8>, size: usize) {
                         .piece(2, signature.clone())
                         .piece(3, vec![0x33; texts])
                         .piece(4, replies[reply].to_vec())
-                        .piece(5, room(space))
-                        .piece(6, room(sense));
+                        .piece(6, room(space))
+                        .piece(7, room(sense));
                     call.pieces[1].resize(size, 0x2E);
                     board.call(&lent::from_intake(call, have));
                 }

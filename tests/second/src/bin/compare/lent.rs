@@ -1,7 +1,7 @@
 //! Pieces that the inputs are made of: blocks, signatures, texts, records.
 
 use crate::call::{self, Call};
-use second::{Census, Intake, Order, Record};
+use second::{Census, Intake, Order, Ports, Record};
 
 /// Fills lent room before a call, so that a written byte is seen.
 pub const FILL: u8 = 0xA5;
@@ -178,6 +178,7 @@ pub fn inquiry(command: &[u8]) -> Call {
         plain_signature(),
         texts(),
         Vec::new(),
+        Vec::new(),
         room(600),
         room(26),
     ];
@@ -215,7 +216,7 @@ pub fn complete(record: Record, status: u8) -> Call {
 }
 
 pub fn write(block: &[u8], size: usize) -> Call {
-    Call::new(call::WRITE, vec![block.to_vec(), room(size)])
+    Call::new(call::WRITE, vec![block.to_vec(), Vec::new(), room(size)])
 }
 
 pub fn read(page: &[u8]) -> Call {
@@ -257,7 +258,15 @@ pub fn feed(census: &Census, block: &[u8]) -> Call {
     Call::new(call::CENSUS_FEED, pieces)
 }
 
-/// The page 83h that a block has.
+/// The page 83h that a block has, without ports.
 pub fn page83(block: &[u8]) -> Vec<u8> {
-    second::page83::page83(block)
+    page83_with(block, Ports::default(), &[])
 }
+
+/// Its page 83h with these ports.
+pub fn page83_with(block: &[u8], ports: Ports, address: &[u8]) -> Vec<u8> {
+    second::page83::page83(block, ports, address)
+}
+
+/// An address whose bytes all differ.
+pub const ADDRESS: [u8; 8] = [0x50, 0x01, 0xC2, 0xD3, 0xE4, 0xF5, 0x06, 0x17];

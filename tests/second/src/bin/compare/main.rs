@@ -20,6 +20,7 @@ mod lent;
 mod numbers;
 mod orders;
 mod pages;
+mod ports;
 mod random;
 mod resets;
 mod rolls;
@@ -123,7 +124,7 @@ fn real_blocks(folder: &str) -> io::Result<Vec<Vec<u8>>> {
 /// A class of inputs that takes nothing but the board.
 type Inputs = fn(&mut Board);
 
-const CLASSES: [(&str, Inputs); 46] = [
+const CLASSES: [(&str, Inputs); 54] = [
     ("soundings C1 to C13", soundings::numbered),
     ("the other soundings", soundings::others),
     ("published examples", soundings::published),
@@ -171,6 +172,14 @@ const CLASSES: [(&str, Inputs); 46] = [
     ("page 83h: damaged blocks", pages::damaged_blocks),
     ("page 83h: every byte damaged", pages::damaged),
     ("page 83h: cut, extended, mixed", pages::resized),
+    ("ports: pages, cuts and room", ports::cuts),
+    ("ports: choices and numbers", ports::numbers),
+    ("ports: addresses", ports::addresses),
+    ("ports: refusals alone and together", ports::refusals),
+    ("ports: written and read back", ports::written),
+    ("ports: every byte damaged", ports::damaged),
+    ("ports: cut, extended, mixed", ports::resized),
+    ("ports: right and wrong descriptors", ports::sequences),
     ("roll: sizes and rows", rolls::sizes),
     ("roll: word 87 of two blocks", rolls::name_words),
     ("roll: damaged blocks", rolls::damaged),
@@ -239,7 +248,7 @@ fn run(asked: Asked) -> io::Result<bool> {
 /// What the second program's own answers show.
 #[derive(Default)]
 struct Agreed {
-    /// Rows and pages 83h.
+    /// Rows, and names and ports of pages 83h.
     pages: bool,
     /// Divided streams and single runs.
     streams: bool,
@@ -311,7 +320,7 @@ impl Report {
 fn own_answers(agreed: &Agreed, report: &mut Report) {
     report.check(
         agreed.pages,
-        "roll: the same row exactly if the pages 83h are equal",
+        "roll: the same row exactly if the names of pages 83h are equal, and the pages exactly if the ports are, too",
     );
     report.check(
         agreed.streams,
@@ -384,15 +393,15 @@ fn pairs_tried(board: &Board, report: &mut Report) {
 /// The numbers that each function can give, as the header says.
 const GIVEN: [&[usize]; 13] = [
     &[0],
-    &[0, 1, 2, 3, 4, 5, 6, 7, 8, 18],
+    &[0, 1, 2, 3, 4, 5, 6, 7, 8, 18, 19],
     &[0, 1, 2, 3, 4, 9, 10, 11, 12, 13, 14],
     &[0, 1, 15],
-    &[0, 1, 8, 18],
+    &[0, 1, 8, 18, 19],
     &[0, 16],
     &[0, 1, 18],
     &[0],
     &[0, 1],
-    &[0, 1, 2, 3, 4, 5, 6, 7, 8, 18],
+    &[0, 1, 2, 3, 4, 5, 6, 7, 8, 18, 19],
     &[0, 1, 8, 18],
     &[0],
     &[0, 1, 17, 18],

@@ -5,7 +5,7 @@ use crate::call::{sixteen_bits, Bytes, Call, CENSUS_FEED, COMPLETE, INQUIRY};
 use crate::censuses;
 use crate::lent;
 use crate::numbers::Numbers;
-use second::Intake;
+use second::{Intake, Ports};
 
 /// So many calls over all functions.
 pub fn calls(board: &mut Board, seed: u64, count: u64, real: &[Vec<u8>]) {
@@ -64,10 +64,8 @@ fn shown(board: &mut Board, call: &mut Call, length: u16) -> Option<Vec<u8>> {
     call.pieces[0][3..5].copy_from_slice(&length.to_be_bytes());
     board.call(call);
     let lent = &call.pieces;
-    let (mut room, mut sense) = (lent[5].clone(), lent[6].clone());
-    let answer = second::inquiry(
-        &lent[0], &lent[1], &lent[2], &lent[3], &lent[4], 0, &mut room, &mut sense,
-    );
+    let (mut room, mut sense) = (lent[6].clone(), lent[7].clone());
+    let answer = call.inquiry(&lent[0], &lent[1], 0, &mut room, &mut sense);
     let from = if answer.shown == 0 { &lent[4] } else { &room };
     (answer.number == 0).then(|| from[..answer.count].to_vec())
 }
@@ -206,11 +204,31 @@ pub fn inquiry(numbers: &mut Numbers, known: &[Vec<u8>]) -> Call {
         _ => Vec::new(),
     };
     let mut pieces = vec![command, block, numbers.bytes(20), numbers.bytes(28)];
-    pieces.extend([reply, numbers.bytes(room), numbers.bytes(22)]);
+    pieces.extend([reply, Vec::new(), numbers.bytes(room), numbers.bytes(22)]);
     if numbers.once_in(3) {
         pieces[2][5..7].copy_from_slice(&[0x14, 0xEB]);
     }
-    Call::new(INQUIRY, pieces)
+    let (ports, address) = ports(numbers);
+    Call::new(INQUIRY, pieces).ports(ports, &address)
+}
+
+/// Any choice, mostly of ports that there are; and what is not chosen is any.
+fn ports(numbers: &mut Numbers) -> (Ports, Vec<u8>) {
+    let chosen = match numbers.below(8) {
+        0 => numbers.next() as u16,
+        _ => numbers.below(4) as u16,
+    };
+    let relative = match numbers.below(12) {
+        0 => numbers.next() as u16,
+        1 => numbers.pick(&[0, 3, 0x0100, 0x0201]),
+        _ => 1 + numbers.below(2) as u16,
+    };
+    let size = match numbers.below(12) {
+        0 => numbers.below(20),
+        1 => numbers.pick(&[0, 7, 9]),
+        _ => 8,
+    };
+    (Ports { chosen, relative }, numbers.bytes(size))
 }
 
 /// Mostly a command that is served.
@@ -227,7 +245,7 @@ fn inquiry_command(numbers: &mut Numbers) -> Vec<u8> {
     let allocation = match numbers.below(3) {
         0 => numbers.next() as u16,
         1 => numbers.below(600) as u16,
-        _ => numbers.below(80) as u16,
+        _ => numbers.below(100) as u16,
     };
     let control = match numbers.below(8) {
         0 => numbers.byte(),
@@ -255,17 +273,24 @@ fn list(numbers: &mut Numbers) -> Vec<u8> {
 
 fn read(numbers: &mut Numbers, known: &[Vec<u8>]) -> Call {
     if numbers.once_in(20) {
-        let size = numbers.pick(&[0, 15, 16, 17, 75, 76, 77, 200]);
+        let size = numbers.pick(&[0, 15, 16, 17, 24, 28, 36, 75, 76, 77, 84, 88, 96, 200]);
         return lent::read(&numbers.bytes(size));
     }
-    lent::read(&lent::page83(&block(numbers, known)))
+    let block = block(numbers, known);
+    let (mut ports, mut address) = ports(numbers);
+    address.resize(8, 0x00);
+    if ports.relative > 3 {
+        ports.relative %= 4;
+    }
+    lent::read(&lent::page83_with(&block, ports, &address))
 }
 
 fn write(numbers: &mut Numbers, known: &[Vec<u8>]) -> Call {
-    let room = numbers.pick(&[0, 15, 16, 75, 76, 80]);
+    let room = numbers.pick(&[0, 15, 16, 36, 75, 76, 83, 84, 87, 88, 95, 96, 100, 100]);
     let block = block(numbers, known);
-    let mut call = lent::write(&block, 0);
-    call.pieces[1] = numbers.bytes(room);
+    let (ports, address) = ports(numbers);
+    let mut call = lent::write(&block, 0).ports(ports, &address);
+    call.pieces[2] = numbers.bytes(room);
     call
 }
 

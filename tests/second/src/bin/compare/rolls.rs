@@ -3,6 +3,8 @@
 use crate::board::Board;
 use crate::lent;
 use crate::numbers::Numbers;
+use crate::ports;
+use second::Ports;
 
 /// 64 different drives: by name, by model, by serial, or by one byte alone.
 pub fn different() -> Vec<Vec<u8>> {
@@ -172,25 +174,61 @@ pub fn sample() -> Vec<u8> {
     [first, second, lent::zero_block()].concat()
 }
 
+/// A drive's block and the ports that it is reached by.
+struct Reached {
+    block: Vec<u8>,
+    ports: Ports,
+    address: [u8; 8],
+}
+
+impl Reached {
+    /// A twin of one of these drives, by any of few ports.
+    fn any(drives: &[Vec<u8>], numbers: &mut Numbers) -> Reached {
+        Reached {
+            block: twin(&drives[numbers.below(16)], numbers),
+            ports: Ports::new(numbers.below(8) as u16, 1 + numbers.below(2) as u16),
+            address: [numbers.below(2) as u8; 8],
+        }
+    }
+
+    fn page(&self) -> Vec<u8> {
+        lent::page83_with(&self.block, self.ports, &self.address)
+    }
+
+    /// Of the page: the first descriptor.
+    fn name(&self) -> Vec<u8> {
+        let page = self.page();
+        page[4..8 + usize::from(page[7])].to_vec()
+    }
+
+    fn told(&self) -> (Option<u16>, Option<[u8; 8]>) {
+        ports::told(self.ports, self.address)
+    }
+}
+
 /// Names, rows and pages of a roll: two blocks have the same row exactly if
-/// their pages 83h are equal. Back: whether that held.
+/// the first descriptors of their pages 83h are equal, and the pages are equal
+/// exactly if the ports are, too. Back: whether that held.
 pub fn pages_agree(board: &mut Board, seed: u64) -> bool {
     let mut numbers = Numbers::new(seed);
     let drives = different();
     let mut agree = true;
     for _ in 0..40 {
-        let picked: Vec<Vec<u8>> = (0..24)
-            .map(|_| twin(&drives[numbers.below(16)], &mut numbers))
+        let picked: Vec<Reached> = (0..24)
+            .map(|_| Reached::any(&drives, &mut numbers))
             .collect();
-        let blocks = picked.concat();
+        let blocks: Vec<u8> = picked.iter().flat_map(|one| one.block.clone()).collect();
         board.call(&lent::roll(&blocks, 24));
         let mut rows = [0; 24];
         second::roll(&blocks, &mut rows);
-        for (at, block) in picked.iter().enumerate() {
-            board.call(&lent::write(block, 80));
-            let same = |&other: &usize| rows[other] == rows[at];
-            let equal = |&other: &usize| lent::page83(&picked[other]) == lent::page83(block);
-            agree &= (0..24).all(|other| same(&other) == equal(&other));
+        for (at, one) in picked.iter().enumerate() {
+            board.call(&lent::write(&one.block, 96).ports(one.ports, &one.address));
+            board.call(&lent::read(&one.page()));
+            for (other, row) in picked.iter().zip(rows) {
+                let (same, equal) = (row == rows[at], other.told() == one.told());
+                agree &= (other.name() == one.name()) == same;
+                agree &= (other.page() == one.page()) == (same && equal);
+            }
         }
     }
     agree

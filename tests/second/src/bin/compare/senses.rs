@@ -37,7 +37,7 @@ pub fn refusals(board: &mut Board) {
             let call = lent::inquiry(&command).form(form);
             board.call(&call.clone().piece(1, Vec::new()));
             board.call(&call.clone().piece(1, lent::damaged_block()));
-            board.call(&call.clone().piece(5, room(7)));
+            board.call(&call.clone().piece(6, room(7)));
             board.call(&packet(call.clone(), &[5, 0, 9, 2, 0x80, 0x80]));
             board.call(&lent::from_intake(call.clone(), 511));
             board.call(&lent::from_intake(call, 512));
@@ -56,7 +56,7 @@ pub fn numbers(board: &mut Board) {
     for form in 0..=0xFF {
         for size in ROOMS {
             let refused = lent::inquiry(&[0x12, 1, 0xB0, 0, 0xFF, 0]);
-            board.call(&refused.piece(6, room(size)).form(form));
+            board.call(&refused.piece(7, room(size)).form(form));
             for command in [vec![], report(), orders::command(true, 7, 0x20, (0, 0), 0)] {
                 let call = lent::submit(&command, 0).piece(2, room(size));
                 board.call(&call.form(form));

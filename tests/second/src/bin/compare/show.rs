@@ -41,7 +41,7 @@ fn describe(call: &Call) -> String {
     let mut text = format!("  piongseut_{}\n", NAMES[at]);
     text += &format!("    declared {}, {:X?}\n", call.declared, call.record);
     text += &format!("    form {}\n", call.form.unwrap_or(0));
-    text += &format!("    {:?}\n", call.intake);
+    text += &format!("    {:?}, {:?}\n", call.intake, call.ports);
     for (name, piece) in PIECES[at].iter().zip(&call.pieces) {
         text += &format!("    {} ({} bytes) {}\n", name, piece.len(), hex(piece));
     }
@@ -87,7 +87,9 @@ fn came_back(function: u8, from: &mut Bytes) -> Option<String> {
         call::WRITE => counted(from)?,
         call::READ => {
             let (number, form) = (from.number(1)?, from.number(1)?);
-            format!("number {number} form {form} name {}", hex(from.take(60)?))
+            let (name, ports) = (hex(from.take(60)?), from.ports()?);
+            let address = hex(from.take(8)?);
+            format!("number {number} form {form} name {name} {ports:?} address {address}")
         }
         call::INTAKE_EMPTY => format!("{:?}", from.intake()?),
         call::INTAKE_TAKE => {

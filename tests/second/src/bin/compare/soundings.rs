@@ -42,7 +42,7 @@ pub fn others(board: &mut Board) {
     board.call(&Call::new(EMPTY, Vec::new()));
     for size in [571, 572] {
         for allocation in [571, 572, 573, 0xFFFF] {
-            let call = lent::inquiry_page(0x89, allocation).piece(5, room(size));
+            let call = lent::inquiry_page(0x89, allocation).piece(6, room(size));
             board.call(&packet(call.clone(), &[]));
             board.call(&call);
         }
