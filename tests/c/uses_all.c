@@ -7,8 +7,8 @@
 #include <stdio.h>
 #include <string.h>
 
-/* What rooms are filled with, the refusals of a census and of a damaged block, and where sense data has the registers. */
-enum { FILL = 0xA5, WRONG_CENSUS = 17, DAMAGED = 18, REGISTERS_AT = PIONGSEUT_SENSE_SIZE - PIONGSEUT_REGISTERS_SIZE };
+/* What rooms are filled with, the refusals of a census, of a damaged block and of a port, and where sense data has the registers. */
+enum { FILL = 0xA5, WRONG_CENSUS = 17, DAMAGED = 18, WRONG_PORT = 19, REGISTERS_AT = PIONGSEUT_SENSE_SIZE - PIONGSEUT_REGISTERS_SIZE };
 
 static int passed;
 static int failed;
@@ -61,10 +61,12 @@ static void version(void)
     check(strcmp(said, PIONGSEUT_VERSION_STRING) == 0 && PIONGSEUT_VERSION == 0x040000, "version 4.0.0");
 }
 
+static const piongseut_ports no_ports = {PIONGSEUT_PORT_NONE, 0};
+
 static piongseut_inquiry_answer ask(const uint8_t *command, size_t size, const uint8_t *reply, size_t reply_size)
 {
     return piongseut_inquiry(command, size, block, sizeof block, signature, sizeof signature, texts, sizeof texts, reply,
-                             reply_size, PIONGSEUT_SENSE_DESCRIPTOR, room, sizeof room, sense, sizeof sense);
+                             reply_size, no_ports, texts, 0, PIONGSEUT_SENSE_DESCRIPTOR, room, sizeof room, sense, sizeof sense);
 }
 
 /* A refused INQUIRY with the sense of the table's row. */
@@ -126,7 +128,8 @@ static void page89(void)
     prepare();
     piongseut_inquiry_answer answer =
         piongseut_inquiry(command, sizeof command, block, sizeof block, signature, sizeof signature, texts, sizeof texts,
-                          texts, 0, PIONGSEUT_SENSE_UNSTATED, room, PIONGSEUT_PAGE89_SIZE - 1, sense, sizeof sense);
+                          texts, 0, no_ports, texts, 0, PIONGSEUT_SENSE_UNSTATED, room, PIONGSEUT_PAGE89_SIZE - 1, sense,
+                          sizeof sense);
     check(answer.number == PIONGSEUT_REFUSED_ROOM && answer.status == PIONGSEUT_NONE && untouched(room, sizeof room),
           "page 89h, room 571: 8");
     answer = ask(command, sizeof command, texts, 0);
@@ -367,7 +370,7 @@ static void refused_in_fixed(uint8_t form, const char *inquiry, const char *subm
     prepare();
     piongseut_inquiry_answer answer =
         piongseut_inquiry(c5, sizeof c5, block, sizeof block, signature, sizeof signature, texts, sizeof texts, texts, 0,
-                          form, room, sizeof room, sense, sizeof sense);
+                          no_ports, texts, 0, form, room, sizeof room, sense, sizeof sense);
     check(answer.number == PIONGSEUT_REFUSED_PAGE && answer.status == PIONGSEUT_CHECK_CONDITION && fixed_sense(wanted), inquiry);
     prepare();
     piongseut_submit_answer taken =
@@ -486,10 +489,16 @@ static void protocols(void)
     protocol_taken(PIONGSEUT_PROTOCOL_UDMA_DATA_OUT, 0x06, to, "UDMA Data Out");
 }
 
+/* The page of the block as it is, without ports. */
+static piongseut_write_page83_answer write_name(size_t room_size)
+{
+    return piongseut_write_page83(block, sizeof block, no_ports, texts, 0, room, room_size);
+}
+
 static void pages83(void)
 {
     prepare();
-    piongseut_write_page83_answer written = piongseut_write_page83(block, sizeof block, room, PIONGSEUT_PAGE83_WWN_SIZE);
+    piongseut_write_page83_answer written = write_name(PIONGSEUT_PAGE83_WWN_SIZE);
     check(written.number == PIONGSEUT_ACCEPTED && written.count == PIONGSEUT_PAGE83_WWN_SIZE &&
               memcmp(room, c1_page, sizeof c1_page) == 0 && untouched(room + sizeof c1_page, 60),
           "the writer makes C1's page");
@@ -501,19 +510,99 @@ static void pages83(void)
     check(read.number == PIONGSEUT_REFUSED_NOT_A_PAGE && read.form == PIONGSEUT_FORM_REFUSED && read.name[0] == 0,
           "a page with a byte behind it, 16");
     block[175] = 0x40;
-    written = piongseut_write_page83(block, sizeof block, room, sizeof room);
+    written = write_name(sizeof room);
     check(written.count == PIONGSEUT_PAGE83_TEXT_SIZE && room[4] == 0x02, "name words, and word 87 says that there is no name");
     memset(block, 0, sizeof block);
     block[55] = 'M';
     block[21] = 'S';
-    written = piongseut_write_page83(block, sizeof block, room, sizeof room);
+    written = write_name(sizeof room);
     read = piongseut_read_page83(room, written.count);
     check(written.count == PIONGSEUT_PAGE83_TEXT_SIZE && read.form == PIONGSEUT_FORM_TEXT && read.name[0] == 'M' &&
               read.name[1] == ' ' && read.name[PIONGSEUT_MODEL_SIZE] == 'S' &&
               sizeof read.name == PIONGSEUT_MODEL_SIZE + PIONGSEUT_SERIAL_SIZE,
           "model and serial number, zeros as spaces");
-    written = piongseut_write_page83(block, sizeof block, room, PIONGSEUT_PAGE83_TEXT_SIZE - 1);
+    written = write_name(PIONGSEUT_PAGE83_TEXT_SIZE - 1);
     check(written.number == PIONGSEUT_REFUSED_ROOM && written.count == 0, "room 75 for 76 bytes, 8");
+}
+
+/* A page with both ports behind the name of C1; the parts of it that the other choices leave out are cut from it. */
+static const uint8_t page_of_both[PIONGSEUT_PAGE83_WWN_SIZE + 20] = {
+    0x00, 0x83, 0x00, 0x20, 0x01, 0x03, 0x00, 0x08, 0x50, 0x00, 0xC5, 0x00, 0x12, 0x34, 0x56, 0x78, 0x61, 0x94,
+    0x00, 0x04, 0x00, 0x00, 0x00, 0x02, 0x61, 0x93, 0x00, 0x08, 0x50, 0x01, 0x02, 0x03, 0x04, 0x05, 0x06, 0x07};
+static const uint8_t *const address = page_of_both + 28;
+enum { RELATIVE_AT = PIONGSEUT_PAGE83_WWN_SIZE, SAS_AT = RELATIVE_AT + 8 };
+
+static piongseut_inquiry_answer ask_ports(uint8_t page, piongseut_ports ports, size_t address_size)
+{
+    const uint8_t command[6] = {0x12, 0x01, page, 0x00, 0xFF, 0x00};
+    prepare();
+    return piongseut_inquiry(command, sizeof command, block, sizeof block, signature, sizeof signature, texts, sizeof texts, texts, 0,
+                             ports, address, address_size, PIONGSEUT_SENSE_DESCRIPTOR, room, sizeof room, sense, sizeof sense);
+}
+
+/* The page with a choice of ports, whose numbers are 2 and the address: what INQUIRY shows, the writer writes and the reader reads. */
+static void page_with(uint16_t chosen, const char *what)
+{
+    const piongseut_ports ports = {chosen, 2};
+    const int relative = (chosen & PIONGSEUT_PORT_RELATIVE) != 0, sas = (chosen & PIONGSEUT_PORT_SAS) != 0;
+    uint8_t wanted[sizeof page_of_both];
+    size_t size = RELATIVE_AT;
+    memcpy(wanted, page_of_both, size);
+    if (relative)
+        memcpy(wanted + size, page_of_both + RELATIVE_AT, 8);
+    size += relative ? 8 : 0;
+    if (sas)
+        memcpy(wanted + size, page_of_both + SAS_AT, 12);
+    size += sas ? 12 : 0;
+    wanted[3] = (uint8_t)(size - 4);
+    piongseut_inquiry_answer answer = ask_ports(0x83, ports, PIONGSEUT_ADDRESS_SIZE);
+    int shown = answer.number == PIONGSEUT_ACCEPTED && answer.status == PIONGSEUT_GOOD && answer.count == size &&
+                memcmp(room, wanted, size) == 0 && untouched(room + size, sizeof room - size);
+    prepare();
+    piongseut_write_page83_answer written =
+        piongseut_write_page83(block, sizeof block, ports, address, PIONGSEUT_ADDRESS_SIZE, room, size);
+    int made = written.number == PIONGSEUT_ACCEPTED && written.count == size && memcmp(room, wanted, size) == 0;
+    piongseut_read_page83_answer read = piongseut_read_page83(room, size);
+    int found = read.number == PIONGSEUT_ACCEPTED && read.form == PIONGSEUT_FORM_WWN && read.ports.chosen == (chosen & 3) &&
+                read.ports.relative == (relative ? 2 : 0) && (memcmp(read.address, address, sizeof read.address) == 0) == sas;
+    check(shown && made && found, what);
+}
+
+static void ports83(void)
+{
+    const piongseut_ports both = {PIONGSEUT_PORT_RELATIVE | PIONGSEUT_PORT_SAS, 1};
+    page_with(PIONGSEUT_PORT_NONE, "page 83h without ports: shown, written, read");
+    page_with(PIONGSEUT_PORT_RELATIVE, "page 83h with the relative target port");
+    page_with(PIONGSEUT_PORT_SAS, "page 83h with the SAS target port");
+    page_with(PIONGSEUT_PORT_RELATIVE | PIONGSEUT_PORT_SAS, "page 83h with both ports");
+    page_with(0xFFFC, "bits that choose no port");
+    prepare();
+    memset(block, 0, sizeof block);
+    piongseut_write_page83_answer written =
+        piongseut_write_page83(block, sizeof block, both, address, PIONGSEUT_ADDRESS_SIZE, room, sizeof room);
+    piongseut_read_page83_answer read = piongseut_read_page83(room, written.count);
+    check(written.count == PIONGSEUT_PAGE83_MOST_SIZE && room[3] == PIONGSEUT_PAGE83_MOST_SIZE - 4 && room[83] == 1 &&
+              read.form == PIONGSEUT_FORM_TEXT && read.ports.chosen == both.chosen && read.ports.relative == 1,
+          "the longest page 83h: texts and both ports");
+}
+
+/* A port that there is not, and an address that is too short. */
+static void ports_refused(void)
+{
+    const piongseut_ports third = {PIONGSEUT_PORT_RELATIVE, 3}, sas = {PIONGSEUT_PORT_SAS, 3};
+    piongseut_inquiry_answer answer = ask_ports(0x83, third, 0);
+    check(answer.number == WRONG_PORT && WRONG_PORT == PIONGSEUT_REFUSED_PORT && answer.status == PIONGSEUT_CHECK_CONDITION &&
+              sense[0] == 0x72 && sense[1] == 0x05 && sense[2] == 0x24 && untouched(room, sizeof room),
+          "page 83h with a port of 3, 19");
+    answer = ask_ports(0x80, third, 0);
+    check(answer.number == PIONGSEUT_ACCEPTED && answer.count == PIONGSEUT_PAGE80_SIZE, "page 80h with a port of 3");
+    answer = ask_ports(0x80, sas, PIONGSEUT_ADDRESS_SIZE - 1);
+    check(answer.number == PIONGSEUT_REFUSED_SIZE && answer.status == PIONGSEUT_NONE && untouched(sense, sizeof sense),
+          "page 80h with an address of 7 bytes, 1");
+    piongseut_write_page83_answer written = piongseut_write_page83(block, sizeof block, third, address, 0, room, 0);
+    check(written.number == WRONG_PORT && written.count == 0, "the writer with a port of 3, 19 before 8");
+    written = piongseut_write_page83(block, sizeof block, sas, address, PIONGSEUT_ADDRESS_SIZE - 1, room, sizeof room);
+    check(written.number == PIONGSEUT_REFUSED_SIZE && untouched(room, sizeof room), "the writer with an address of 7 bytes, 1");
 }
 
 /* C1's block with A5h in byte 510: taken with the checksum that goes with it, 18 with another. */
@@ -533,7 +622,7 @@ static void damaged_block(void)
     check(answer.number == DAMAGED && answer.status == PIONGSEUT_NONE && answer.count == 0 && untouched(room, sizeof room) &&
               untouched(sense, sizeof sense),
           "INQUIRY with a damaged block and no command byte, 18");
-    piongseut_write_page83_answer written = piongseut_write_page83(block, sizeof block, room, 0);
+    piongseut_write_page83_answer written = write_name(0);
     check(written.number == DAMAGED && written.count == 0, "page 83h of a damaged block, 18");
     piongseut_roll_answer rolled = piongseut_roll(block, sizeof block, &row, 1);
     check(rolled.number == DAMAGED && rolled.blocks == 0 && rolled.drives == 0 && row == 0xAAAA, "the roll of a damaged block, 18");
@@ -626,7 +715,7 @@ static piongseut_inquiry_answer ask_intake(piongseut_intake intake, const uint8_
     piongseut_intake_block_answer its = piongseut_intake_block(intake, PIONGSEUT_BLOCK_SIZE);
     check(its.number == PIONGSEUT_ACCEPTED && its.count == whole, "the block of an intake: 512 bytes or none");
     return piongseut_inquiry(command, sizeof command, store, its.count, signature, sizeof signature, texts, sizeof texts, texts, 0,
-                             PIONGSEUT_SENSE_DESCRIPTOR, room, sizeof room, sense, sizeof sense);
+                             no_ports, texts, 0, PIONGSEUT_SENSE_DESCRIPTOR, room, sizeof room, sense, sizeof sense);
 }
 
 /* Pages from the complete intake, from one that lacks a byte, and no block of a wrong one. */
@@ -751,6 +840,8 @@ int main(void)
     longest_order();
     protocols();
     pages83();
+    ports83();
+    ports_refused();
     damaged_block();
     rolls();
     intakes();

@@ -27,13 +27,14 @@ static int asked(const uint8_t *block)
 {
     static const uint8_t command[6] = {0x12, 0x01, 0x89, 0xFF, 0xFF, 0x00};
     static const uint8_t signature[PIONGSEUT_SIGNATURE_SIZE] = {0}, texts[PIONGSEUT_TEXTS_SIZE] = {0};
+    static const piongseut_ports ports = {PIONGSEUT_PORT_NONE, 0};
     uint8_t room[PIONGSEUT_PAGE89_SIZE], filled[PIONGSEUT_PAGE89_SIZE], sense[PIONGSEUT_SENSE_SIZE];
     memset(room, FILL, sizeof room);
     memset(filled, FILL, sizeof filled);
     memset(sense, FILL, sizeof sense);
     piongseut_inquiry_answer answer =
         piongseut_inquiry(command, sizeof command, block, PIONGSEUT_BLOCK_SIZE, signature, sizeof signature, texts, sizeof texts,
-                          texts, 0, PIONGSEUT_SENSE_UNSTATED, room, sizeof room, sense, sizeof sense);
+                          texts, 0, ports, texts, 0, PIONGSEUT_SENSE_UNSTATED, room, sizeof room, sense, sizeof sense);
     int refused = answer.number == DAMAGED && answer.status == PIONGSEUT_NONE && answer.shown == PIONGSEUT_SHOWN_ROOM &&
                   answer.count == 0 && memcmp(room, filled, sizeof room) == 0 && memcmp(sense, filled, sizeof sense) == 0;
     int served = answer.number == PIONGSEUT_ACCEPTED && answer.count == sizeof room &&
@@ -41,13 +42,16 @@ static int asked(const uint8_t *block)
     return refused ? DAMAGED : served ? PIONGSEUT_ACCEPTED : -1;
 }
 
-/* Its page 83h, and the roll of it alone: the number that they give, or -1 where it is not that of page 89h. */
+/* Its page 83h with both ports, and the roll of it alone: the number that they give, or -1 where it is not that of page 89h. */
 static int number_of(const uint8_t *block)
 {
-    uint8_t room[PIONGSEUT_PAGE83_TEXT_SIZE];
+    static const piongseut_ports ports = {PIONGSEUT_PORT_RELATIVE | PIONGSEUT_PORT_SAS, 1};
+    static const uint8_t address[PIONGSEUT_ADDRESS_SIZE] = {0x50};
+    uint8_t room[PIONGSEUT_PAGE83_MOST_SIZE];
     uint16_t row = 0;
     int number = asked(block);
-    piongseut_write_page83_answer written = piongseut_write_page83(block, PIONGSEUT_BLOCK_SIZE, room, sizeof room);
+    piongseut_write_page83_answer written =
+        piongseut_write_page83(block, PIONGSEUT_BLOCK_SIZE, ports, address, sizeof address, room, sizeof room);
     piongseut_roll_answer rolled = piongseut_roll(block, PIONGSEUT_BLOCK_SIZE, &row, 1);
     return written.number == number && rolled.number == number && row == (number == PIONGSEUT_ACCEPTED) ? number : -1;
 }

@@ -124,14 +124,25 @@ static void empty(void)
     say("sum", intake.sum);
 }
 
+static piongseut_ports next_ports(void)
+{
+    piongseut_ports ports;
+    ports.chosen = (uint16_t)next_number();
+    ports.relative = (uint16_t)next_number();
+    return ports;
+}
+
 static void inquiry(void)
 {
     piece command = next_piece(), block = next_piece(), signature = next_piece(), texts = next_piece(), reply = next_piece();
+    piongseut_ports ports = next_ports();
+    piece address = next_piece();
     unsigned long form = next_number();
     piece room = next_piece(), sense = next_piece();
     piongseut_inquiry_answer answer =
         piongseut_inquiry(command.bytes, command.size, block.bytes, block.size, signature.bytes, signature.size, texts.bytes,
-                          texts.size, reply.bytes, reply.size, (uint8_t)form, room.bytes, room.size, sense.bytes, sense.size);
+                          texts.size, reply.bytes, reply.size, ports, address.bytes, address.size, (uint8_t)form, room.bytes,
+                          room.size, sense.bytes, sense.size);
     say("number", answer.number);
     say("status", answer.status);
     say("shown", answer.shown);
@@ -143,6 +154,7 @@ static void inquiry(void)
     free(block.bytes);
     free(signature.bytes);
     free(texts.bytes);
+    free(address.bytes);
 }
 
 static void submit(void)
@@ -181,12 +193,16 @@ static void complete(void)
 
 static void write83(void)
 {
-    piece block = next_piece(), room = next_piece();
-    piongseut_write_page83_answer answer = piongseut_write_page83(block.bytes, block.size, room.bytes, room.size);
+    piece block = next_piece();
+    piongseut_ports ports = next_ports();
+    piece address = next_piece(), room = next_piece();
+    piongseut_write_page83_answer answer =
+        piongseut_write_page83(block.bytes, block.size, ports, address.bytes, address.size, room.bytes, room.size);
     say("number", answer.number);
     say("count", answer.count);
     say_piece("room", room);
     free(block.bytes);
+    free(address.bytes);
 }
 
 static void read83(void)
@@ -196,6 +212,9 @@ static void read83(void)
     say("number", answer.number);
     say("form", answer.form);
     say_bytes("name", answer.name, sizeof answer.name);
+    say("ports", answer.ports.chosen);
+    say("port", answer.ports.relative);
+    say_bytes("address", answer.address, sizeof answer.address);
     free(page.bytes);
 }
 

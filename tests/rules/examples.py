@@ -11,8 +11,8 @@ import sys
 
 FILL = 0xEE
 ROW_FILL = 0xEEEE
-START = {"block": "512 zero", "signature": "20 zero", "texts": "28 zero", "registers": "11 zero", "reply": "none", "declared": "0",
-         "form": "2", "room": "600", "sense room": "24", "rows": "64", "run": "none"}
+START = {"block": "512 zero", "signature": "20 zero", "texts": "28 zero", "registers": "11 zero", "reply": "none", "ports": "none",
+         "port": "0", "address": "none", "declared": "0", "form": "2", "room": "600", "sense room": "24", "rows": "64", "run": "none"}
 OTHER_NAMES = ("command", "page", "blocks", "input", "haves", "stores", "have", "census")
 PROGRAMS = ("rollcall", "census")
 
@@ -56,6 +56,14 @@ def read_bytes(text):
 
 def read_number(text):
     return int(text[:-1], 16) if text.endswith("h") else int(text)
+
+
+def read_ports(text):
+    """Which target ports: by name, or a number of which the lowest two bits choose."""
+    return PORTS.index(text) if text in PORTS else read_number(text)
+
+
+PORTS = ("none", "relative", "sas", "both")
 
 
 def read_order(text):
@@ -193,7 +201,7 @@ def unspelt(name, word):
         return {field: int(value) for field, value in (pair.split(":") for pair in word.split(";"))}
     if name in ("rows", "census"):
         return [] if word == "-" else [int(row) for row in word.split(",")]
-    if name in ("reply", "room", "sense", "record", "name", "store"):
+    if name in ("reply", "room", "sense", "record", "name", "store", "address"):
         return b"" if word == "-" else bytes.fromhex(word)
     return int(word)
 
@@ -238,6 +246,10 @@ class Trial:
     def form(self):
         return read_number(self.lent["form"])
 
+    def ports(self):
+        """Which ports, the number of the relative one, and the address of the SAS one."""
+        return read_ports(self.lent["ports"]), read_number(self.lent["port"]), self.bytes("address")
+
     def step(self, step):
         self.lent.update(step.lent)
         if "have" in step.lent:
@@ -278,7 +290,8 @@ class Trial:
 
     def inquiry(self):
         before, sense, reply = self.room(), self.sense(), self.bytes("reply")
-        got = self.board.call("inquiry", *map(self.bytes, ("command", "block", "signature", "texts")), reply, self.form(), before, sense)
+        got = self.board.call("inquiry", *map(self.bytes, ("command", "block", "signature", "texts")), reply, *self.ports(),
+                              self.form(), before, sense)
         part, count, written = (reply, got["count"], 0) if got["shown"] == 0 else (got["room"], got["count"], got["count"])
         names = {0: "reply", 1: "room"}
         def always(named):
@@ -339,7 +352,7 @@ class Trial:
 
     def write83(self):
         before = self.room()
-        got = self.board.call("write83", self.bytes("block"), before)
+        got = self.board.call("write83", self.bytes("block"), *self.ports(), before)
         self.made["written"] = got["room"][:got["count"]]
         return self.counted(got, before, "page")
 
@@ -350,11 +363,17 @@ class Trial:
         return self.counted(got, before, "gathered")
 
     def read83(self):
+        """What a page tells of ports is named, or there is nothing of it."""
         got = self.board.call("read83", self.bytes("page"))
+        nothing = {"ports": 0, "port": 0, "address": bytes(8)}
         def always(named):
             if got["number"]:
                 self.want("form and name of a refusal", (0, bytes(60)), (got["form"], got["name"]))
-        return Outcome(got, {"name": lambda text: self.front("name", bytes(60), read_bytes(text), got["name"])}, always)
+            for name in nothing.keys() - (set() if got["number"] else named.keys()):
+                self.want(name + " that no page tells", nothing[name], got[name])
+        return Outcome(got, {"name": lambda text: self.front("name", bytes(60), read_bytes(text), got["name"]),
+                             "ports": lambda text: self.want("ports", read_ports(text), got["ports"]),
+                             **self.bytes_are("address", got["address"])}, always)
 
     def roll(self):
         rows = [ROW_FILL] * int(self.lent["rows"])
@@ -481,8 +500,8 @@ def entries():
 def page_checks(text, table, cases):
     tried = {step.entry for case in cases for step in case.steps}
     names = {word for case in cases for word in re.findall(r"^C\d+", case.name)}
-    yield "the table has a row for each number from 1 to 18", sorted(set(range(1, 19)) ^ set(table))
-    yield "every number has an example", sorted(set(range(19)) - numbers_in(cases))
+    yield "the table has a row for each number from 1 to 19", sorted(set(range(1, 20)) ^ set(table))
+    yield "every number has an example", sorted(set(range(20)) - numbers_in(cases))
     yield "every entry has an example", sorted((entries() | set(PROGRAMS)) - tried)
     yield "C1 to C13 are among the examples", sorted({"C%d" % n for n in range(1, 14)} - names)
     yield "every definition that the page names is there", list(undefined(text))
