@@ -100,8 +100,8 @@ static void inquire(bay *b, exchange *x)
     size_t replied = drive_inquiry(d, x->command, x->command_size, reply, sizeof reply);
     piongseut_inquiry_answer a = piongseut_inquiry(
         x->command, x->command_size, d->identify, d->identify_size, d->signature,
-        sizeof d->signature, texts, sizeof texts - 1, reply, replied, d->form, room, sizeof room,
-        x->sense, sizeof x->sense);
+        sizeof d->signature, texts, sizeof texts - 1, reply, replied, d->ports, d->address,
+        sizeof d->address, d->form, room, sizeof room, x->sense, sizeof x->sense);
     x->number = a.number;
     x->status = a.status;
     x->moved = a.count < x->declared ? a.count : x->declared;

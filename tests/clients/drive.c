@@ -83,6 +83,23 @@ static void shake(uint8_t *block)
     block[37] ^= 0x02;
 }
 
+/* The bay's path to the drive, for page 83h: the number of the port, and its SAS address. */
+static int path(drive *d, const char *key, const char *value)
+{
+    if (!strcmp(key, "port")) {
+        d->ports.chosen |= PIONGSEUT_PORT_RELATIVE;
+        d->ports.relative = (uint16_t)strtoul(value, NULL, 10);
+        return 0;
+    }
+    if (strcmp(key, "address") || strlen(value) != 2 * sizeof d->address)
+        return -1;
+    unsigned long long address = strtoull(value, NULL, 16);
+    d->ports.chosen |= PIONGSEUT_PORT_SAS;
+    for (size_t i = 0; i < sizeof d->address; i++)
+        d->address[i] = (uint8_t)(address >> (56 - 8 * i));
+    return 0;
+}
+
 /* One line of a description. */
 static int property(drive *d, const char *folder, const char *key, const char *value)
 {
@@ -111,7 +128,7 @@ static int property(drive *d, const char *folder, const char *key, const char *v
     else if (!strcmp(key, "sense") && !strcmp(value, "unstated"))
         d->form = PIONGSEUT_SENSE_UNSTATED;
     else
-        return -1;
+        return path(d, key, value);
     return 0;
 }
 

@@ -21,6 +21,8 @@ typedef struct {
     uint8_t form;         /* of the sense data that the host of this bay asks for */
     uint8_t hangs;        /* the command at which it hangs, or 0 for none */
     int hung;             /* it hangs now, and only a reset frees it; then it hangs no more */
+    piongseut_ports ports; /* of the path from this bay to the drive, those that page 83h tells */
+    uint8_t address[PIONGSEUT_ADDRESS_SIZE];
 } drive;
 
 /* What moved where the drive hangs: the order has no end. */

@@ -370,7 +370,7 @@ class Trial:
             if got["number"]:
                 self.want("form and name of a refusal", (0, bytes(60)), (got["form"], got["name"]))
             for name in nothing.keys() - (set() if got["number"] else named.keys()):
-                self.want(name + " that no page tells", nothing[name], got[name])
+                self.want(name + " where none is named", nothing[name], got[name])
         return Outcome(got, {"name": lambda text: self.front("name", bytes(60), read_bytes(text), got["name"]),
                              "ports": lambda text: self.want("ports", read_ports(text), got["ports"]),
                              **self.bytes_are("address", got["address"])}, always)
