@@ -29,6 +29,9 @@ DRIVES = {
     "one-with-zeros-and-spaces": 1,
 }
 
+# One drive in two bays, each of which tells the path to it.
+BY_TWO_PATHS = "one-with-name-in-two-bays", "one-without-name-in-two-bays"
+
 # All that the kernel says of a disk that it has no complaint about.
 CALM = re.compile(
     r"SCSI subsystem initialized|scsi host\d+: Virtio SCSI HBA|scsi [\d:]+: Direct-Access     .{8} .{16} .{4} PQ: 0 ANSI: 5"
@@ -80,8 +83,8 @@ def cleaned(text):
 
 
 def wwid(page83):
-    """The name of the one descriptor that the board makes: a world wide name, or vendor, model and serial number."""
-    name = page83[8:]
+    """The name of the first descriptor that the board makes: a world wide name, or vendor, model and serial number."""
+    name = page83[8:8 + page83[7]]
     return b"naa." + name.hex().encode() if page83[5] == 0x03 else b"t10." + name
 
 
@@ -122,6 +125,14 @@ def drives(seen):
     for group, count in DRIVES.items():
         have = seen["rolls"].get(group)
         yield "%s: %d" % (group, count), "" if have == count else "rollcall says %s" % have
+
+
+def paths(seen):
+    for group in BY_TWO_PATHS:
+        facts = [seen["facts"].get(bay, {}) for bay, of in seen["groups"].items() if of == group]
+        names, pages = ({fact.get(of) for fact in facts} for of in ("wwid", "vpd_pg83"))
+        wrong = "" if (len(facts), len(names), len(pages)) == (2, 1, 2) else "%d names, %d pages 83h" % (len(names), len(pages))
+        yield "%s: the kernel has one name, and two paths in page 83h" % group, wrong
 
 
 def kernel_log(seen):
@@ -197,7 +208,7 @@ def clients(seen):
 
 
 def judged(seen):
-    return [found for check in (disks, drives, kernel_log, board_log, block_layer, clients) for found in check(seen)]
+    return [found for check in (disks, drives, paths, kernel_log, board_log, block_layer, clients) for found in check(seen)]
 
 
 # ---- that it notices ----
@@ -227,6 +238,10 @@ def other_name(seen):
     seen["facts"]["21"]["wwid"] = seen["facts"]["20"]["wwid"].replace(b"Z", b"Y")
 
 
+def one_path(seen):
+    seen["facts"]["17"]["vpd_pg83"] = seen["facts"]["16"]["vpd_pg83"]
+
+
 def other_list(seen):
     seen["facts"]["04"]["vpd_pg0"] = listed(seen["pages"]["04"]["00h"], not seen["generic"])
 
@@ -245,6 +260,8 @@ PLANTS = (
      {"bay 09: " + fact for fact in FACTS} | {NAMES % "eight-without-names", NAMES % "all"}),
     ("two drives under one name", same_name, {"bay 01: wwid", NAMES % "eight-with-names", NAMES % "all"}),
     ("one drive under two names", other_name, {"bay 21: wwid", NAMES % "one-with-zeros-and-spaces", NAMES % "all"}),
+    ("one path in two bays", one_path,
+     {"bay 17: vpd_pg83", "one-with-name-in-two-bays: the kernel has one name, and two paths in page 83h"}),
     ("a drive that rollcall does not count", change(lambda count: count - 1, "rolls", "eight-without-names"),
      {NAMES % "eight-without-names", "eight-without-names: 8"}),
     ("a complaint in the kernel's log",

@@ -55,10 +55,10 @@ def shelf(real):
         yield "eight-with-names", changed(toshiba, "38IGT0G%dT" % at, name=0x5000C50012345678 + at), ""
     for at in range(8):
         yield "eight-without-names", changed(western, "     WD-WCANKH57300%d" % at), ""
-    for _ in range(2):
-        yield "one-with-name-in-two-bays", fujitsu, ""
-    for block in maxtor:
-        yield "one-without-name-in-two-bays", block, ""
+    for port in 1, 2:
+        yield "one-with-name-in-two-bays", fujitsu, "port %d\naddress 500143801234567%d\n" % (port, port)
+    for port, block in enumerate(maxtor, 1):
+        yield "one-without-name-in-two-bays", block, "port %d\naddress 500143801234568%d\n" % (port, port)
     for end in b"\0", b" ":
         yield "one-with-zeros-and-spaces", changed(maxtor[0], "N80ZERO", "Maxtor 96147", end=end), ""
     for file in "INTEL_SSDSA2MH080G1GC--045C8820", "SAMSUNG_MP0804H--UE100-14", "ST320410A--3.39":

@@ -1,9 +1,13 @@
-//! `pages TEXTS SIGNATURE`: the second program's reply to every INQUIRY of the
-//! drives whose blocks stand on standard input, to hold against what a host
-//! made of the board's. A line is: the block's place, what is asked, number and
-//! status, and the bytes. TEXTS are the translator's, SIGNATURE is that of all
-//! the drives in hexadecimal digits.
+//! `pages TEXTS SIGNATURE [PATH ..]`: the second program's reply to every
+//! INQUIRY of the drives whose blocks stand on standard input, to hold against
+//! what a host made of the board's. A line is: the block's place, what is asked,
+//! number and status, and the bytes. TEXTS are the translator's, SIGNATURE is
+//! that of all the drives in hexadecimal digits. The PATH of each drive, in the
+//! blocks' order, is PORT:ADDRESS, as page 83h is to tell it: a number and
+//! hexadecimal digits, or nothing in the place of each; drives without one are
+//! told without.
 
+use second::Ports;
 use std::io::{self, Read, Write};
 
 const ASKED: [(&str, u8, u8); 5] = [
@@ -25,12 +29,29 @@ fn from_hex(digits: &str) -> Option<Vec<u8>> {
         .collect()
 }
 
+/// The ports of a path, and the address.
+fn path(word: &str) -> Option<(Ports, Vec<u8>)> {
+    let (port, address) = word.split_once(':')?;
+    let chosen = u16::from(!port.is_empty()) + 2 * u16::from(!address.is_empty());
+    let relative = match port {
+        "" => 0,
+        _ => port.parse().ok()?,
+    };
+    Some((Ports::new(chosen, relative), from_hex(address)?))
+}
+
+/// What is the same for all the drives.
+struct Board<'a> {
+    texts: &'a [u8],
+    signature: Vec<u8>,
+}
+
 fn line(
     place: usize,
     asked: (&str, u8, u8),
     block: &[u8],
-    signature: &[u8],
-    texts: &[u8],
+    path: &(Ports, Vec<u8>),
+    board: &Board,
 ) -> String {
     let (what, evpd, code) = asked;
     let (mut room, mut sense) = ([0; 572], [0; 22]);
@@ -38,11 +59,11 @@ fn line(
     let answer = second::inquiry(
         &command,
         block,
-        signature,
-        texts,
+        &board.signature,
+        board.texts,
         &[],
-        second::Ports::default(),
-        &[],
+        path.0,
+        &path.1,
         second::sense::UNSTATED,
         &mut room,
         &mut sense,
@@ -54,22 +75,33 @@ fn line(
     )
 }
 
+/// What the words behind the program's name say.
+fn asked(words: &[String]) -> Option<(Board<'_>, Vec<(Ports, Vec<u8>)>)> {
+    let (texts, signature, paths) = match words {
+        [texts, signature, paths @ ..] => (texts, signature, paths),
+        _ => return None,
+    };
+    let board = Board {
+        texts: texts.as_bytes(),
+        signature: from_hex(signature)?,
+    };
+    let paths: Option<Vec<_>> = paths.iter().map(|word| path(word)).collect();
+    Some((board, paths?))
+}
+
 fn main() -> io::Result<()> {
     let words: Vec<String> = std::env::args().skip(1).collect();
-    let (texts, signature) = match &words[..] {
-        [texts, signature] => (texts.as_bytes(), from_hex(signature)),
-        _ => (&b""[..], None),
-    };
-    let signature = signature.unwrap_or_else(|| {
-        eprintln!("usage: pages TEXTS SIGNATURE <BLOCKS");
+    let (board, mut paths) = asked(&words).unwrap_or_else(|| {
+        eprintln!("usage: pages TEXTS SIGNATURE [PORT:ADDRESS ..] <BLOCKS");
         std::process::exit(2)
     });
     let mut input = Vec::new();
     io::stdin().lock().read_to_end(&mut input)?;
     let mut output = String::new();
+    paths.resize(input.len() / 512 + 1, Default::default());
     for (place, block) in input.chunks(512).enumerate() {
         for asked in ASKED {
-            output += &line(place, asked, block, &signature, texts);
+            output += &line(place, asked, block, &paths[place], &board);
         }
     }
     io::stdout().write_all(output.as_bytes())
