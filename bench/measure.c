@@ -56,6 +56,8 @@ typedef struct {
     piongseut_record record;
     piongseut_census census;
     uint8_t name[PIONGSEUT_NAME_SIZE];
+    piongseut_ports ports;
+    uint8_t address[PIONGSEUT_ADDRESS_SIZE];
     uint16_t rows[PIONGSEUT_ROLL_BLOCKS];
     _Alignas(64) uint8_t room[PIONGSEUT_ROLL_BLOCKS * PIONGSEUT_BLOCK_SIZE];
     _Alignas(64) uint8_t sense[32];
@@ -69,7 +71,7 @@ typedef void make(const measured *, const maker *, left *);
 struct measured {
     const char *name;
     unsigned target;     /* instructions, 0 where none is set */
-    size_t bytes;        /* what the call delivers: reply, sense bytes, order, record, name, rows, a run, blocks, a census */
+    size_t bytes;        /* what the call delivers: reply, sense bytes, order, record, name and ports, rows, a run, blocks, a census */
     make *make;
     unsigned how;
     uint8_t command[16];
@@ -78,15 +80,16 @@ struct measured {
 /*
  * How a call is made: for a drive without a name, for a packet drive, with an order pending, with one that asks for registers,
  * with an intake that has a part of its block, with blocks that carry a checksum, for sense data in the fixed form and not among
- * descriptors, with a reset over the order.
+ * descriptors, with a reset over the order, with both ports in page 83h.
  */
-enum { TEXTS = 1, PACKET = 2, HELD = 4, CK_COND = 8, PART = 16, SUMMED = 32, FIXED = 64, OVER = 128 };
+enum { TEXTS = 1, PACKET = 2, HELD = 4, CK_COND = 8, PART = 16, SUMMED = 32, FIXED = 64, OVER = 128, PORTS = 256 };
 
 static _Alignas(64) uint8_t block[PIONGSEUT_BLOCK_SIZE], blocks[PIONGSEUT_ROLL_BLOCKS * PIONGSEUT_BLOCK_SIZE];
-static _Alignas(64) uint8_t page[PIONGSEUT_PAGE83_TEXT_SIZE];
+static _Alignas(64) uint8_t page[PIONGSEUT_PAGE83_MOST_SIZE];
 static uint16_t haves[PIONGSEUT_ROLL_BLOCKS];
 static uint8_t signature[PIONGSEUT_SIGNATURE_SIZE], texts[PIONGSEUT_TEXTS_SIZE], registers[PIONGSEUT_REGISTERS_SIZE];
 static uint8_t reply[7] = {5, 0, 0, 3, 0, 0x80, 0x83};
+static uint8_t address[PIONGSEUT_ADDRESS_SIZE] = {0x50, 0x01, 0x43, 0x80, 0x12, 0x34, 0x56, 0x71};
 static size_t page_size; /* of the page that was written last; it is the one to be read */
 
 /* ---- The calls ---- */
@@ -94,6 +97,12 @@ static size_t page_size; /* of the page that was written last; it is the one to 
 static uint8_t form_of(const measured *one)
 {
     return one->how & FIXED ? PIONGSEUT_SENSE_FIXED : PIONGSEUT_SENSE_DESCRIPTOR;
+}
+
+static piongseut_ports ports_of(const measured *one)
+{
+    const piongseut_ports both = {PIONGSEUT_PORT_RELATIVE | PIONGSEUT_PORT_SAS, 2}, none = {PIONGSEUT_PORT_NONE, 0};
+    return one->how & PORTS ? both : none;
 }
 
 static void make_empty(const measured *one, const maker *by, left *to)
@@ -106,7 +115,8 @@ static void make_inquiry(const measured *one, const maker *by, left *to)
 {
     piongseut_inquiry_answer answer;
     STACK_CALL(answer = by->inquiry(one->command, 6, block, sizeof block, signature, sizeof signature, texts, sizeof texts, reply,
-                                    sizeof reply, form_of(one), to->room, sizeof to->room, to->sense, sizeof to->sense));
+                                    sizeof reply, ports_of(one), address, sizeof address, form_of(one), to->room, sizeof to->room,
+                                    to->sense, sizeof to->sense));
     SAID(to, answer.number, answer.status, answer.shown, answer.count);
 }
 
@@ -129,8 +139,7 @@ static void make_complete(const measured *one, const maker *by, left *to)
 static void make_write(const measured *one, const maker *by, left *to)
 {
     piongseut_write_page83_answer answer;
-    (void)one;
-    STACK_CALL(answer = by->write(block, sizeof block, to->room, sizeof to->room));
+    STACK_CALL(answer = by->write(block, sizeof block, ports_of(one), address, sizeof address, to->room, sizeof to->room));
     SAID(to, answer.number, answer.count);
 }
 
@@ -141,6 +150,8 @@ static void make_read(const measured *one, const maker *by, left *to)
     STACK_CALL(answer = by->read(page, page_size));
     SAID(to, answer.number, answer.form);
     memcpy(to->name, answer.name, sizeof to->name);
+    to->ports = answer.ports;
+    memcpy(to->address, answer.address, sizeof to->address);
 }
 
 static void make_roll(const measured *one, const maker *by, left *to)
@@ -223,6 +234,8 @@ static const measured calls[] = {
     {"inquiry, page 83h, name", 120, 16, make_inquiry, 0, {0x12, 1, 0x83, 2, 0x3C}},
     {"inquiry, page 83h, texts", 0, 76, make_inquiry, TEXTS, {0x12, 1, 0x83, 2, 0x3C}},
     {"inquiry, page 83h, A5h", 0, 16, make_inquiry, SUMMED, {0x12, 1, 0x83, 2, 0x3C}},
+    {"inquiry, 83h name ports", 0, 36, make_inquiry, PORTS, {0x12, 1, 0x83, 2, 0x3C}},
+    {"inquiry, 83h texts ports", 0, 96, make_inquiry, TEXTS | PORTS, {0x12, 1, 0x83, 2, 0x3C}},
     {"inquiry, page 89h", 250, 572, make_inquiry, 0, {0x12, 1, 0x89, 2, 0x3C}},
     {"inquiry, refusal, sense", 100, 8, make_inquiry, 0, {0x12, 1, 0xB0, 2, 0x3C}},
     {"inquiry, refusal, fixed", 0, 18, make_inquiry, FIXED, {0x12, 1, 0xB0, 2, 0x3C}},
@@ -242,9 +255,13 @@ static const measured calls[] = {
     {"complete, GOOD", 0, RECORD, make_complete, HELD, {0}},
     {"complete, order lost", 0, RECORD, make_complete, HELD | CK_COND | OVER, {0}},
     {"write page 83h, name", 0, 16, make_write, 0, {0}},
-    {"read page 83h, name", 0, 60, make_read, 0, {0}},
+    {"read page 83h, name", 0, 72, make_read, 0, {0}},
     {"write page 83h, texts", 0, 76, make_write, TEXTS, {0}},
-    {"read page 83h, texts", 0, 60, make_read, 0, {0}},
+    {"read page 83h, texts", 0, 72, make_read, 0, {0}},
+    {"write 83h, name, ports", 0, 36, make_write, PORTS, {0}},
+    {"read 83h, name, ports", 0, 72, make_read, 0, {0}},
+    {"write 83h, texts, ports", 0, 96, make_write, TEXTS | PORTS, {0}},
+    {"read 83h, texts, ports", 0, 72, make_read, 0, {0}},
     {"roll, 64 drives, names", 0, 128, make_roll, 0, {0}},
     {"roll, 64 drives, texts", 0, 128, make_roll, TEXTS, {0}},
     {"intake, block in one run", 0, 512, make_take, 0, {0}},

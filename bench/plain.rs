@@ -68,10 +68,19 @@ pub struct Written {
 }
 
 #[repr(C)]
+#[derive(Clone, Copy, Default)]
+pub struct Ports {
+    chosen: u16,
+    relative: u16,
+}
+
+#[repr(C)]
 pub struct Name {
     number: u8,
     form: u8,
     name: [u8; 60],
+    ports: Ports,
+    address: [u8; 8],
 }
 
 #[repr(C)]
@@ -123,9 +132,9 @@ const FIELD: [u8; 3] = [0x05, 0x24, 0x00];
 
 /// Key, ASC and ASCQ of each refusal number. Key 0: no sense bytes.
 #[rustfmt::skip]
-const TABLE: [[u8; 3]; 19] = [
+const TABLE: [[u8; 3]; 20] = [
     [0; 3], [0; 3], FIELD, [0x05, 0x20, 0x00], FIELD, FIELD, [0x02, 0x04, 0x00], [0x0B, 0x00, 0x00], [0; 3],
-    FIELD, [0; 3], FIELD, FIELD, FIELD, FIELD, [0; 3], [0; 3], [0; 3], [0; 3],
+    FIELD, [0; 3], FIELD, FIELD, FIELD, FIELD, [0; 3], [0; 3], [0; 3], [0; 3], FIELD,
 ];
 
 /// The one number that states the descriptor form; all others come to the fixed form.
@@ -216,19 +225,53 @@ fn carries_name(block: &[u8]) -> bool {
     block[175] & 0xC1 == 0x41 && block[216..224] != [0; 8]
 }
 
-/// Writes the first bytes of page 83h, as many as the allocation length lets through.
-fn page83(block: &Block, most: usize, room: &mut [u8]) -> Result<usize, u8> {
-    if carries_name(block) {
-        let mut page = [0; 16];
-        page[..8].copy_from_slice(&NAME_HEAD);
-        turn(&block[216..224], &mut page[8..], kept);
-        return show([&page], most, room);
+/// What page 83h is to tell of the path to a drive.
+#[derive(Clone, Copy)]
+struct Path<'a> {
+    relative: Option<u16>,
+    address: Option<&'a [u8; 8]>,
+}
+
+impl<'a> Path<'a> {
+    /// None where an address is chosen and has another size.
+    fn new(ports: Ports, address: &'a [u8]) -> Option<Path<'a>> {
+        let address = if ports.chosen & 2 != 0 { Some(address.try_into().ok()?) } else { None };
+        Some(Path { relative: (ports.chosen & 1 != 0).then(|| ports.relative), address })
     }
-    let mut page = [0; 76];
+}
+
+/// Writes the first bytes of page 83h, as many as the allocation length lets through.
+fn page83(block: &Block, path: Path, most: usize, room: &mut [u8]) -> Result<usize, u8> {
+    if !matches!(path.relative, None | Some(1 | 2)) {
+        return Err(19);
+    }
+    if carries_name(block) {
+        let mut page = [0; 36];
+        page[..8].copy_from_slice(&NAME_HEAD);
+        turn(&block[216..224], &mut page[8..16], kept);
+        return show_with_ports(page, 16, path, most, room);
+    }
+    let mut page = [0; 96];
     page[..16].copy_from_slice(&TEXTS_HEAD);
     turn(&block[54..94], &mut page[16..56], spaced);
-    turn(&block[20..40], &mut page[56..], spaced);
-    show([&page], most, room)
+    turn(&block[20..40], &mut page[56..76], spaced);
+    show_with_ports(page, 76, path, most, room)
+}
+
+/// Puts the path behind the name, which ends at this place, and shows the page.
+fn show_with_ports<const N: usize>(mut page: [u8; N], name: usize, path: Path, most: usize, room: &mut [u8]) -> Result<usize, u8> {
+    let mut end = name;
+    if let Some(relative) = path.relative {
+        page[end..end + 8].copy_from_slice(&[0x61, 0x94, 0x00, 0x04, 0x00, 0x00, 0x00, relative as u8]);
+        end += 8;
+    }
+    if let Some(address) = path.address {
+        page[end..end + 4].copy_from_slice(&[0x61, 0x93, 0x00, 0x08]);
+        page[end + 4..end + 12].copy_from_slice(address);
+        end += 12;
+    }
+    page[3] = (end - 4) as u8;
+    show([&page[..end]], most, room)
 }
 
 /// The first 60 bytes of page 89h; the block follows them.
@@ -273,12 +316,13 @@ struct Drive<'a> {
     signature: &'a [u8; 20],
     texts: &'a [u8; 28],
     reply: &'a [u8],
+    path: Path<'a>,
 }
 
 impl<'a> Drive<'a> {
-    fn new(block: &'a [u8], signature: &'a [u8], texts: &'a [u8], reply: &'a [u8]) -> Option<Drive<'a>> {
+    fn new(block: &'a [u8], signature: &'a [u8], texts: &'a [u8], reply: &'a [u8], path: Option<Path<'a>>) -> Option<Drive<'a>> {
         let block = if block.is_empty() { None } else { Some(block.try_into().ok()?) };
-        Some(Drive { block, signature: signature.try_into().ok()?, texts: texts.try_into().ok()?, reply })
+        Some(Drive { block, signature: signature.try_into().ok()?, texts: texts.try_into().ok()?, reply, path: path? })
     }
 }
 
@@ -303,7 +347,7 @@ fn inquiry(command: &[u8], drive: &Drive, room: &mut [u8]) -> Result<(u8, usize)
         (false, 1, 0x01..=0x7F | 0x81 | 0x82 | 0x84..=0xFF, _) => Err(5),
         (false, _, _, None) => Err(6),
         (false, 1, 0x80, Some(block)) => show([&page80(block)], most, room),
-        (false, 1, _, Some(block)) => page83(block, most, room),
+        (false, 1, _, Some(block)) => page83(block, drive.path, most, room),
         (false, _, _, Some(block)) => show([&standard_data(block)], most, room),
     };
     Ok((ROOM, count?))
@@ -437,12 +481,38 @@ fn complete(record: &mut Pending, registers: &[u8], form: u8, sense: &mut [u8]) 
 
 // ---- The reader of page 83h, and the roll ----
 
-/// The form of a page 83h, and the bytes of its name.
-fn read_page83(page: &[u8]) -> Option<(u8, &[u8])> {
-    match page.strip_prefix(&NAME_HEAD) {
-        Some(name) => (name.len() == 8 && name != [0; 8]).then(|| (1, name)),
-        None => page.strip_prefix(&TEXTS_HEAD).filter(|texts| texts.len() == 60 && !texts.contains(&0)).map(|texts| (2, texts)),
+/// What a page 83h tells, but for the number.
+fn read_page83(page: &[u8], told: &mut Name) -> Option<()> {
+    let path = match page {
+        [0x00, 0x83, 0x00, _, 0x01, 0x03, 0x00, 0x08, rest @ ..] => {
+            let name = rest.get(..8).filter(|name| **name != [0; 8])?;
+            told.name[..8].copy_from_slice(name);
+            told.form = 1;
+            &rest[8..]
+        }
+        [0x00, 0x83, 0x00, _, 0x02, 0x01, 0x00, 0x44, rest @ ..] => {
+            let rest = rest.strip_prefix(b"ATA     ")?;
+            let texts = rest.get(..60).filter(|texts| !texts.contains(&0))?;
+            told.name.copy_from_slice(texts);
+            told.form = 2;
+            &rest[60..]
+        }
+        _ => return None,
+    };
+    let rest = match path {
+        [0x61, 0x94, 0x00, 0x04, 0x00, 0x00, 0x00, port @ (1 | 2), rest @ ..] => {
+            told.ports = Ports { chosen: 1, relative: u16::from(*port) };
+            rest
+        }
+        _ => path,
+    };
+    if let [0x61, 0x93, 0x00, 0x08, address @ ..] = rest {
+        told.address = address.try_into().ok()?;
+        told.ports.chosen |= 2;
+    } else if !rest.is_empty() {
+        return None;
     }
+    (usize::from(page[3]) + 4 == page.len()).then(|| ())
 }
 
 /// Whether two texts are equal with zero bytes read as spaces.
@@ -545,11 +615,12 @@ pub extern "C" fn plain_record_empty() -> Pending {
 #[no_mangle]
 pub unsafe extern "C" fn plain_inquiry(
     command: *const u8, command_size: usize, block: *const u8, block_size: usize, signature: *const u8, signature_size: usize,
-    texts: *const u8, texts_size: usize, reply: *const u8, reply_size: usize, form: u8, room: *mut u8, room_size: usize,
-    sense: *mut u8, sense_size: usize,
+    texts: *const u8, texts_size: usize, reply: *const u8, reply_size: usize, ports: Ports, address: *const u8, address_size: usize,
+    form: u8, room: *mut u8, room_size: usize, sense: *mut u8, sense_size: usize,
 ) -> InquiryAnswer {
     let (texts, reply) = (lent(texts, texts_size), lent(reply, reply_size));
-    let drive = Drive::new(lent(block, block_size), lent(signature, signature_size), texts, reply);
+    let path = Path::new(ports, lent(address, address_size));
+    let drive = Drive::new(lent(block, block_size), lent(signature, signature_size), texts, reply, path);
     let sense = lent_mut(sense, sense_size);
     let drive = drive.filter(|_| sense.len() >= 22).ok_or(1);
     match drive.and_then(|drive| inquiry(lent(command, command_size), &drive, lent_mut(room, room_size))) {
@@ -589,10 +660,13 @@ pub unsafe extern "C" fn plain_complete(
 /// # Safety
 /// As the header says of piongseut_write_page83.
 #[no_mangle]
-pub unsafe extern "C" fn plain_write_page83(block: *const u8, block_size: usize, room: *mut u8, room_size: usize) -> Written {
+pub unsafe extern "C" fn plain_write_page83(
+    block: *const u8, block_size: usize, ports: Ports, address: *const u8, address_size: usize, room: *mut u8, room_size: usize,
+) -> Written {
+    let path = Path::new(ports, lent(address, address_size)).ok_or(1);
     let block = lent(block, block_size).try_into().map_err(|_| 1);
-    let block = block.and_then(|block: &Block| sound(block).map(|_| block));
-    match block.and_then(|block| page83(block, usize::MAX, lent_mut(room, room_size))) {
+    let lent = path.and_then(|path| block.and_then(|block: &Block| sound(block).map(|_| (block, path))));
+    match lent.and_then(|(block, path)| page83(block, path, usize::MAX, lent_mut(room, room_size))) {
         Ok(count) => Written { number: 0, count },
         Err(number) => Written { number, count: 0 },
     }
@@ -602,12 +676,11 @@ pub unsafe extern "C" fn plain_write_page83(block: *const u8, block_size: usize,
 /// As the header says of piongseut_read_page83.
 #[no_mangle]
 pub unsafe extern "C" fn plain_read_page83(page: *const u8, page_size: usize) -> Name {
-    let mut answer = Name { number: 16, form: 0, name: [0; 60] };
-    if let Some((form, name)) = read_page83(lent(page, page_size)) {
-        (answer.number, answer.form) = (0, form);
-        answer.name[..name.len()].copy_from_slice(name);
+    let mut told = Name { number: 0, form: 0, name: [0; 60], ports: Ports::default(), address: [0; 8] };
+    match read_page83(lent(page, page_size), &mut told) {
+        Some(()) => told,
+        None => Name { number: 16, form: 0, name: [0; 60], ports: Ports::default(), address: [0; 8] },
     }
-    answer
 }
 
 /// # Safety
