@@ -29,8 +29,10 @@ fn from_hex(digits: &str) -> Option<Vec<u8>> {
         .collect()
 }
 
-/// The ports of a path, and the address.
-fn path(word: &str) -> Option<(Ports, Vec<u8>)> {
+/// The ports by which a drive is reached, and the address.
+type Path = (Ports, Vec<u8>);
+
+fn path(word: &str) -> Option<Path> {
     let (port, address) = word.split_once(':')?;
     let chosen = u16::from(!port.is_empty()) + 2 * u16::from(!address.is_empty());
     let relative = match port {
@@ -46,13 +48,7 @@ struct Board<'a> {
     signature: Vec<u8>,
 }
 
-fn line(
-    place: usize,
-    asked: (&str, u8, u8),
-    block: &[u8],
-    path: &(Ports, Vec<u8>),
-    board: &Board,
-) -> String {
+fn line(place: usize, asked: (&str, u8, u8), block: &[u8], path: &Path, board: &Board) -> String {
     let (what, evpd, code) = asked;
     let (mut room, mut sense) = ([0; 572], [0; 22]);
     let command = [0x12, evpd, code, 0xFF, 0xFF, 0x00];
@@ -76,7 +72,7 @@ fn line(
 }
 
 /// What the words behind the program's name say.
-fn asked(words: &[String]) -> Option<(Board<'_>, Vec<(Ports, Vec<u8>)>)> {
+fn asked(words: &[String]) -> Option<(Board<'_>, Vec<Path>)> {
     let (texts, signature, paths) = match words {
         [texts, signature, paths @ ..] => (texts, signature, paths),
         _ => return None,
