@@ -209,6 +209,7 @@ pub const NAMES: &[&str] = &[
     "ports-1-refused",
     "ports-2-refused",
     "ports-exchanged",
+    "ports-one-page-for-both-paths",
     "ports-low-byte-first",
     "ports-number-before-the-zeros",
     "ports-of-no-protocol",

@@ -97,7 +97,9 @@ pub fn descriptors(ports: Ports, address: &[u8]) -> Vec<u8> {
 /// Two zero bytes and the number, high byte first.
 fn relative_descriptor(relative: u16) -> Vec<u8> {
     let mut descriptor = RELATIVE_HEAD.to_vec();
-    let [high, low] = relative.to_be_bytes();
+    let one_page = fault::planted("ports-one-page-for-both-paths");
+    let told = if one_page { 1 } else { relative };
+    let [high, low] = told.to_be_bytes();
     if fault::planted("ports-low-byte-first") {
         descriptor.extend([0x00, 0x00, low, high]);
     } else if fault::planted("ports-number-before-the-zeros") {
