@@ -86,14 +86,14 @@ module _ (f : ℕ → ℕ) (s : List ℕ) (i : ℕ) (even : i % 2 ≡ 0) (h : i 
       let third : i + 2 + 1 ≡ i + 3 = omega arith in
       rw (word-first f s i even (omega arith), word-second f s i even (omega arith), rw third at (word-first f s (i + 2) (omega arith) (omega arith)), rw third at (word-second f s (i + 2) (omega arith) (omega arith))) at (four (map f (turned s)) i (omega (arith, length-text f s)))
 
-pub four-words : (s : List ℕ) (i : ℕ) → i % 2 ≡ 0 → i + 8 ≤ length s → drop i (turned s) ≡ getD s (i + 1) 0 ∷ getD s i 0 ∷ getD s (i + 3) 0 ∷ getD s (i + 2) 0 ∷ getD s (i + 5) 0 ∷ getD s (i + 4) 0 ∷ getD s (i + 7) 0 ∷ getD s (i + 6) 0 ∷ drop (i + 8) (turned s)
-four-words s i even h =
+pub four-words : (f : ℕ → ℕ) (s : List ℕ) (i : ℕ) → i % 2 ≡ 0 → i + 8 ≤ length s → drop i (map f (turned s)) ≡ f (getD s (i + 1) 0) ∷ f (getD s i 0) ∷ f (getD s (i + 3) 0) ∷ f (getD s (i + 2) 0) ∷ f (getD s (i + 5) 0) ∷ f (getD s (i + 4) 0) ∷ f (getD s (i + 7) 0) ∷ f (getD s (i + 6) 0) ∷ drop (i + 8) (map f (turned s))
+four-words f s i even h =
     let five : i + 4 + 1 ≡ i + 5 = omega arith in
     let six : i + 4 + 2 ≡ i + 6 = omega arith in
     let seven : i + 4 + 3 ≡ i + 7 = omega arith in
     let eight : i + 4 + 4 ≡ i + 8 = omega arith in
-    rw shown-as-it-is at (two-words (shown false) s i even (omega arith))
-    ∙ ap (λ (t : List ℕ). getD s (i + 1) 0 ∷ getD s i 0 ∷ getD s (i + 3) 0 ∷ getD s (i + 2) 0 ∷ t) (rw (shown-as-it-is, five, six, seven, eight) at (two-words (shown false) s (i + 4) (omega arith) (omega arith)))
+    two-words f s i even (omega arith)
+    ∙ ap (λ (t : List ℕ). f (getD s (i + 1) 0) ∷ f (getD s i 0) ∷ f (getD s (i + 3) 0) ∷ f (getD s (i + 2) 0) ∷ t) (rw (five, six, seven, eight) at (two-words f s (i + 4) (omega arith) (omega arith)))
 
 -- A text is all spaces where every byte is one, and is not where one byte is none.
 pub every-space : (s : List ℕ) → ((k : ℕ) → k < length s → getD s k 0 ≡ 0x20) → allSpaces s ≡ true

@@ -34,7 +34,7 @@ fn turned_at(text: &[u8], i: usize, spaced: bool) -> u8
 }
 
 // Writes a text turned, byte by byte, each where there is room for it.
-fn put_each(room: &mut [u8], at: usize, text: &[u8], spaced: bool)
+pub fn put_each(room: &mut [u8], at: usize, text: &[u8], spaced: bool)
     ensures { λ _. ⌜ Wrote (now (room .entry)) at (map (Text·shown spaced) (turned (now (text .entry)))) (now (room .exit)) ⌝ }
 {
     let mut i = 0;
@@ -45,16 +45,32 @@ fn put_each(room: &mut [u8], at: usize, text: &[u8], spaced: bool)
 }
 
 // Writes four words that fit, each turned. As in `room::store_four`, all are read before the first is written.
-fn store_words(room: &mut [u8], at: usize, text: &[u8], i: usize)
+fn store_words(room: &mut [u8], at: usize, text: &[u8], i: usize, spaced: bool)
     requires { ⌜ (at + 8 ≤ length (now room)) × ((i + 8 ≤ length (now text)) × (i % 2 ≡ 0)) ⌝ }
-    ensures { λ _. ⌜ Wrote (now (room .entry)) at (take 8 (drop i (turned (now (text .entry))))) (now (room .exit)) ⌝ }
+    ensures { λ _. ⌜ Wrote (now (room .entry)) at (take 8 (drop i (map (Text·shown spaced) (turned (now (text .entry)))))) (now (room .exit)) ⌝ }
 {
-    let e = text[i + 5];
-    let f = text[i + 4];
-    let g = text[i + 7];
-    let h = text[i + 6];
-    room::store_four(room, at, text[i + 1], text[i], text[i + 3], text[i + 2]);
+    let a = shown(spaced, text[i + 1]);
+    let b = shown(spaced, text[i]);
+    let c = shown(spaced, text[i + 3]);
+    let d = shown(spaced, text[i + 2]);
+    let e = shown(spaced, text[i + 5]);
+    let f = shown(spaced, text[i + 4]);
+    let g = shown(spaced, text[i + 7]);
+    let h = shown(spaced, text[i + 6]);
+    room::store_four(room, at, a, b, c, d);
     room::store_four(room, at + 4, e, f, g, h);
+}
+
+// Writes the last two words of a text, which fit, turned, their zero bytes as spaces.
+fn store_last(room: &mut [u8], at: usize, text: &[u8], i: usize)
+    requires { ⌜ (at + 4 ≤ length (now room)) × ((i + 4 ≡ length (now text)) × (i % 2 ≡ 0)) ⌝ }
+    ensures { λ _. ⌜ Wrote (now (room .entry)) at (drop i (spaced (turned (now (text .entry))))) (now (room .exit)) ⌝ }
+{
+    let a = shown(true, text[i + 1]);
+    let b = shown(true, text[i]);
+    let c = shown(true, text[i + 3]);
+    let d = shown(true, text[i + 2]);
+    room::store_four(room, at, a, b, c, d);
 }
 
 // Writes a text that fits turned, its zero bytes kept.
@@ -64,7 +80,7 @@ pub fn store_turned(room: &mut [u8], at: usize, text: &[u8])
 {
     let mut i = 0;
     while i < text.len() {
-        store_words(room, at + i, text, i);
+        store_words(room, at + i, text, i, false);
         i += 8;
     }
 }
@@ -75,13 +91,12 @@ pub fn store_spaced(room: &mut [u8], at: usize, text: &[u8])
     ensures { λ _. ⌜ Wrote (now (room .entry)) at (spaced (turned (now (text .entry)))) (now (room .exit)) ⌝ }
 {
     let mut i = 0;
-    while i < text.len() {
-        let a = shown(true, text[i + 1]);
-        let b = shown(true, text[i]);
-        let c = shown(true, text[i + 3]);
-        let d = shown(true, text[i + 2]);
-        room::store_four(room, at + i, a, b, c, d);
-        i += 4;
+    while 8 <= text.len() - i {
+        store_words(room, at + i, text, i, true);
+        i += 8;
+    }
+    if i < text.len() {
+        store_last(room, at + i, text, i);
     }
 }
 

@@ -1,62 +1,34 @@
--- `store_spaced`: two words at a time, and the text ends behind the last two.
-use mathlib.Core.Path.{_≡_, refl}
-use Prim.Native.Nat.{_-_, _%_}
+-- `store_spaced`: four words at a time, and the last two where the text does not end behind four.
+use mathlib.Core.Path.{_≡_, refl, sym, ap, _∙_}
+use mathlib.Core.List.{List, _++_}
+use Prim.Native.Nat.{ℕ, _+_, _-_, _%_, _≤_}
 use native.Mathlib.Omega.{arith}
-use lib.ListN.{length}
+use lib.ListN.{length, take, drop, take-append-drop, length-drop}
+use lib.Seq.{drop-drop, length-take-le}
 use Rattle.room.proofs.Laws.{Writing, begin, turn, done}
 use Rattle.texts.specs.Text.{turned, space, spaced}
-use Rattle.texts.proofs.Text.{length-text, two-words}
+use Rattle.texts.proofs.Text.{length-text}
 use borrow.Author.Needs.{needs}
 use Rattle.texts.proofs.store_spaced.Statement.{statement}
 use Rattle.texts.proofs.store_spaced.Tie as tie
 
 abbrev Inv-loop : tie.InvT-loop
-Inv-loop room₀ at text i₀ room i = Writing room₀ at (spaced (turned text)) room i × (i % 4 ≡ 0)
+Inv-loop room₀ at text i₀ room i = Writing room₀ at (spaced (turned text)) room i × ((i % 8 ≡ 0) × (i ≤ length text))
 
 abbrev μ-loop : tie.MeasureT-loop
 μ-loop room₀ at text i₀ room i = length text - i
 
 loop-holds : tie.Need-loop-holds Inv-loop μ-loop
-loop-holds c = (begin _ _ _, omega arith)
+loop-holds c = (begin _ _ _, (omega arith, omega arith))
 
-add-shown : tie.Need-add-shown Inv-loop μ-loop
-add-shown c = search needs
+sub-loop : tie.Need-sub-loop Inv-loop μ-loop
+sub-loop c = search needs
 
-shared-slice-read-shown : tie.Need-shared-slice-read-shown Inv-loop μ-loop
-shared-slice-read-shown c = search needs
+add-store-words : tie.Need-add-store-words Inv-loop μ-loop
+add-store-words c = search needs
 
-shown-requires : tie.Need-shown-requires Inv-loop μ-loop
-shown-requires c κs = search needs
-
-shared-slice-read-shown-2 : tie.Need-shared-slice-read-shown-2 Inv-loop μ-loop
-shared-slice-read-shown-2 c = search needs
-
-shown-requires-2 : tie.Need-shown-requires-2 Inv-loop μ-loop
-shown-requires-2 c κs = search needs
-
-add-shown-2 : tie.Need-add-shown-2 Inv-loop μ-loop
-add-shown-2 c = search needs
-
-shared-slice-read-shown-3 : tie.Need-shared-slice-read-shown-3 Inv-loop μ-loop
-shared-slice-read-shown-3 c = search needs
-
-shown-requires-3 : tie.Need-shown-requires-3 Inv-loop μ-loop
-shown-requires-3 c κs = search needs
-
-add-shown-3 : tie.Need-add-shown-3 Inv-loop μ-loop
-add-shown-3 c = search needs
-
-shared-slice-read-shown-4 : tie.Need-shared-slice-read-shown-4 Inv-loop μ-loop
-shared-slice-read-shown-4 c = search needs
-
-shown-requires-4 : tie.Need-shown-requires-4 Inv-loop μ-loop
-shown-requires-4 c κs = search needs
-
-add-store-four : tie.Need-add-store-four Inv-loop μ-loop
-add-store-four c = search needs
-
-store-four-requires : tie.Need-store-four-requires Inv-loop μ-loop
-store-four-requires c κs = search needs
+store-words-requires : tie.Need-store-words-requires Inv-loop μ-loop
+store-words-requires c κs = (omega (arith, c .before .before .loop .inv .0 .same, c .before .before .before .before .before .pre .0), (omega arith, omega arith))
 
 add-i : tie.Need-add-i Inv-loop μ-loop
 add-i c = search needs
@@ -66,18 +38,32 @@ loop-less c = search needs
 
 loop-again : tie.Need-loop-again Inv-loop μ-loop
 loop-again c =
-    let l = c .before .before .before .before .before .before .before .before .before .before .before .before .before .loop in
-    let a = c .before .before .before .before .before .before .before .before .before .before .before .before .before .before .before .before in (
-      turn (l .inv .0) (rw (c .before .before .before .before .before .before .before .before .before .before .shown .ensures, c .before .before .before .before .before .before .before .before .shown2 .ensures, c .before .before .before .before .before .before .shown3 .ensures, c .before .before .before .before .shown4 .ensures) at (c .before .before .store-four .ensures))
-          (two-words space (a .args .text .now) (l .i) (omega arith) (omega (arith, a .pre .1))) refl,
-      omega arith,
+    let l = c .before .before .before .before .before .loop in
+    let a = c .before .before .before .before .before .before .before .before in
+    let s = spaced (turned (a .args .text .now)) in
+    let n : length (take 8 (drop (l .i) s)) ≡ 8 = length-take-le 8 (drop (l .i) s) (rw length-drop (omega (arith, length-text space (a .args .text .now)))) in (
+      turn (l .inv .0) (c .before .before .store-words .ensures)
+          (sym (take-append-drop 8 (drop (l .i) s)) ∙ ap (λ (t : List ℕ). take 8 (drop (l .i) s) ++ t) (drop-drop 8 (l .i) s)) (ap (λ (k : ℕ). l .i + k) (sym n)),
+      (omega arith, omega arith),
     )
+
+add-store-last : tie.Need-add-store-last Inv-loop μ-loop
+add-store-last c = search needs
+
+store-last-requires : tie.Need-store-last-requires Inv-loop μ-loop
+store-last-requires c κs = (omega (arith, c .before .before .before .loop .inv .0 .same, c .before .before .before .before .before .before .pre .0, c .before .before .before .before .before .before .pre .1), (omega (arith, c .before .before .before .before .before .before .pre .1), omega arith))
 
 same-length : tie.Need-same-length Inv-loop μ-loop
 same-length c = search needs
 
 returns : tie.Need-returns Inv-loop μ-loop
-returns c = done (c .before .loop .inv .0) (omega (arith, length-text space (c .before .before .before .before .args .text .now)))
+returns c = record { leaves = c .before .before .store-last .ensures .leaves ∙ c .before .before .before .before .before .before .loop .inv .0 .left }
+
+same-length-2 : tie.Need-same-length-2 Inv-loop μ-loop
+same-length-2 c = search needs
+
+returns-2 : tie.Need-returns-2 Inv-loop μ-loop
+returns-2 c = done (c .before .before .loop .inv .0) (omega (arith, length-text space (c .before .before .before .before .before .args .text .now)))
 
 pub store-spaced-spec : {M : Type 1} → statement M
 store-spaced-spec =
@@ -86,21 +72,15 @@ store-spaced-spec =
     Inv-loop
     μ-loop
     loop-holds
-    add-shown
-    shared-slice-read-shown
-    shown-requires
-    shared-slice-read-shown-2
-    shown-requires-2
-    add-shown-2
-    shared-slice-read-shown-3
-    shown-requires-3
-    add-shown-3
-    shared-slice-read-shown-4
-    shown-requires-4
-    add-store-four
-    store-four-requires
+    sub-loop
+    add-store-words
+    store-words-requires
     add-i
     loop-less
     loop-again
+    add-store-last
+    store-last-requires
     same-length
-    returns)
+    returns
+    same-length-2
+    returns-2)

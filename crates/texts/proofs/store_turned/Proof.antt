@@ -7,7 +7,7 @@ use lib.ListN.{length, take, drop, take-append-drop, length-drop}
 use lib.Seq.{drop-drop, length-take-le}
 use Rattle.room.proofs.Laws.{Writing, begin, turn, done}
 use Rattle.texts.specs.Text.{turned}
-use Rattle.texts.proofs.Text.{length-turned}
+use Rattle.texts.proofs.Text.{length-turned, shown-as-it-is}
 use borrow.Author.Needs.{needs}
 use Rattle.texts.proofs.store_turned.Statement.{statement}
 use Rattle.texts.proofs.store_turned.Tie as tie
@@ -39,7 +39,7 @@ loop-again c =
     let a = c .before .before .before .before .before .before .before .before in
     let s = turned (a .args .text .now) in
     let n : length (take 8 (drop (l .i) s)) ≡ 8 = length-take-le 8 (drop (l .i) s) (rw length-drop (omega (arith, a .pre .1, length-turned (a .args .text .now)))) in (
-      turn (l .inv .0) (c .before .before .store-words .ensures)
+      turn (l .inv .0) (rw shown-as-it-is at (c .before .before .store-words .ensures))
           (sym (take-append-drop 8 (drop (l .i) s)) ∙ ap (λ (t : List ℕ). take 8 (drop (l .i) s) ++ t) (drop-drop 8 (l .i) s)) (ap (λ (k : ℕ). l .i + k) (sym n)),
       omega arith,
     )
