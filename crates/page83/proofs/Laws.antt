@@ -1,14 +1,15 @@
 -- Laws of page 83h: the forms of its first descriptor, the ports' part, and their lengths.
 use mathlib.Core.Path.{_≡_, refl, sym, ap, _∙_}
 use mathlib.Core.Bool.{Bool, true, false, cond, _||_, not}
-use mathlib.Core.List.{List, [], _++_}
+use mathlib.Core.List.{List, [], _∷_, _++_}
 use Prim.Native.Nat.{ℕ, _+_, _≤_, _<_}
 use native.Mathlib.Omega.{arith}
 use lib.Dec.{eqb}
-use lib.ListN.{length, length-append}
+use lib.ListN.{length, set, length-append}
 use borrow.Author.Tests.{eq-eqb, eqb-true, lt-ltb, le-ltb, not-false}
 use Rattle.rules.proofs.First.{neither}
-use Rattle.room.specs.Room.{written}
+use Rattle.room.specs.Room.{written, Wrote}
+use Rattle.room.proofs.Laws.{length-written, written-front}
 use Rattle.checksum.specs.Checksum.{damaged}
 use Rattle.identify.specs.Block.{serial, model, name}
 use Rattle.texts.specs.Text.{turned, spaced}
@@ -18,7 +19,7 @@ use Rattle.texts.proofs.Text.{length-turned, length-spaced}
 use Rattle.page83.specs.declared.Ports.{Ports}
 use Rattle.page83.specs.Ports.{relativeChosen, sasChosen, relativePort, sasPort, relativePart, sasPart, portsPart, wrongAddress, isPort, wrongPort}
 use Rattle.page83.specs.Page83.{page83, head, nameDescriptor, textDescriptor, driveDescriptor, ata, refusalOf, outcome, write}
-use Rattle.page83.specs.Helpers.{portsSize, driveEnd, pageSize}
+use Rattle.page83.specs.Helpers.{portsSize, driveEnd, pageSize, Grows}
 
 module _ (block : List ℕ) where
   pub named-drive : carriesName block ≡ true → driveDescriptor block ≡ nameDescriptor (turned (name block))
@@ -77,6 +78,12 @@ module _ (ports : Ports) where
       by true = refl
       by false = refl
 
+  pub nothing-sized : (relativeChosen ports || sasChosen ports) ≡ false → portsSize ports ≡ 0
+  unfolding portsSize
+  nothing-sized e =
+      let none = neither (relativeChosen ports) (sasChosen ports) e in
+      rw (none .0, none .1)
+
 module _ (ports : Ports) (address : List ℕ) where
   pub right-address : wrongAddress ports address ≡ false → sasChosen ports ≡ true → length address ≡ 8
   unfolding wrongAddress
@@ -100,6 +107,25 @@ module _ (ports : Ports) (address : List ℕ) where
   unfolding portsSize
   length-ports h = length-append (relativePart ports) (sasPart ports address) ∙ rw (length-relative ports, length-sas h)
 
+-- The length in a page's head, put again.
+again : (before drive : List ℕ) (n m : ℕ) → 4 ≤ length before → set (written before 0 (head n ++ drive)) 3 m ≡ written before 0 (head m ++ drive)
+again (a ∷ b ∷ c ∷ d ∷ rest) drive n m h =
+    ap (λ (l : List ℕ). set l 3 m) (written-front (a ∷ b ∷ c ∷ d ∷ rest) (head n ++ drive)) ∙ sym (written-front (a ∷ b ∷ c ∷ d ∷ rest) (head m ++ drive))
+again [] drive n m h = absurd (omega arith)
+again (a ∷ []) drive n m h = absurd (omega arith)
+again (a ∷ b ∷ []) drive n m h = absurd (omega arith)
+again (a ∷ b ∷ c ∷ []) drive n m h = absurd (omega arith)
+
+pub head-again : {before drive room after : List ℕ} {n m : ℕ} → 4 ≤ length room → Wrote before 0 (head n ++ drive) room → Wrote room 3 (m ∷ []) after → Wrote before 0 (head m ++ drive) after
+head-again {before} {drive} {room} {n = n} {m} h w x =
+    let l : length room ≡ length before = ap length (w .leaves) ∙ length-written before 0 (head n ++ drive) in
+    record { leaves = x .leaves ∙ ap (λ (r : List ℕ). set r 3 m) (w .leaves) ∙ again before drive n m (omega (arith, l, h)) }
+
+-- A page without ports, of n bytes behind its head, that got them.
+module _ (ports : Ports) (address : List ℕ) where
+  grown : {before drive room after : List ℕ} {n end behind : ℕ} → length drive ≡ n → end ≡ 4 + n → behind ≡ n + portsSize ports → Wrote before 0 (head n ++ drive) room → Grows ports address end behind room after → Wrote before 0 (head behind ++ drive ++ portsPart ports address) after
+  grown {before} {drive} l e b w grows = grows before drive (rw l e) (rw l b) (rw l w)
+
 -- The page's size, and the page by that of its parts.
 module _ (block : List ℕ) (ports : Ports) (address : List ℕ) (h : length block ≡ 512) (g : wrongAddress ports address ≡ false) where
   pub page-size : length (page83 block ports address) ≡ pageSize block ports
@@ -119,6 +145,17 @@ module _ (block : List ℕ) (ports : Ports) (address : List ℕ) (h : length blo
 
   pub unnamed-page : carriesName block ≡ false → page83 block ports address ≡ head (72 + portsSize ports) ++ textDescriptor (spaced (turned (model block))) (spaced (turned (serial block))) ++ portsPart ports address
   unnamed-page e = named-or-not ∙ rw (length-unnamed block h e, unnamed-drive block e)
+
+  -- The page, where its part without ports was written first.
+  pub grown-name : carriesName block ≡ true → {behind : ℕ} → behind ≡ 12 + portsSize ports → {before room after : List ℕ} → Wrote before 0 (head 12 ++ nameDescriptor (turned (name block))) room → Grows ports address 16 behind room after → Wrote before 0 (page83 block ports address) after
+  grown-name e b w grows =
+      let l : length (nameDescriptor (turned (name block))) ≡ 12 = omega (arith, named-end block h) in
+      rw (named-page e, ← b) (grown ports address l refl b w grows)
+
+  pub grown-texts : carriesName block ≡ false → {behind : ℕ} → behind ≡ 72 + portsSize ports → {before room after : List ℕ} → Wrote before 0 (head 72 ++ textDescriptor (spaced (turned (model block))) (spaced (turned (serial block)))) room → Grows ports address 76 behind room after → Wrote before 0 (page83 block ports address) after
+  grown-texts e b w grows =
+      let l : length (textDescriptor (spaced (turned (model block))) (spaced (turned (serial block)))) ≡ 72 = omega (arith, unnamed-end block h) in
+      rw (unnamed-page e, ← b) (grown ports address l refl b w grows)
 
 -- The writer of a block that passes, with ports that it takes, by how much room there is for a page of n bytes.
 module _ (block : List ℕ) (ports : Ports) (address room : List ℕ) (h : length block ≡ 512) (a : wrongAddress ports address ≡ false) (d : damaged block ≡ false) (p : wrongPort ports ≡ false) {n : ℕ} (l : length (page83 block ports address) ≡ n) where

@@ -3,16 +3,17 @@
 pub mod port;
 
 ghost use mathlib.Core.Path.{_≡_};
-ghost use mathlib.Core.Bool.{Bool, false};
+ghost use mathlib.Core.Bool.{Bool, true, false};
 ghost use mathlib.Core.List.{List, _++_};
-ghost use Prim.Native.Nat.{_≤_};
+ghost use Prim.Native.Nat.{_+_, _≤_};
 ghost use lib.ListN.{length};
 ghost use Rattle.room.specs.Room.{Wrote};
 ghost use Rattle.identify.specs.Block.{serial, model, name};
+ghost use Rattle.identify.specs.Drive.{carriesName};
 ghost use Rattle.texts.specs.Text.{turned, spaced};
 ghost use Rattle.page83.specs.Ports.{portsPart, wrongAddress};
 ghost use Rattle.page83.specs.Page83.{page83, head, nameDescriptor, textDescriptor, outcome, write as Page83·write};
-ghost use Rattle.page83.specs.Helpers.{pageSize};
+ghost use Rattle.page83.specs.Helpers.{portsSize, pageSize, Grows, Whole};
 
 // The target ports that a caller chooses: bit 0 the relative one, whose number stands beside it, bit 1 the SAS one, whose address is
 // lent.
@@ -106,21 +107,22 @@ fn put_texts(room: &mut [u8], block: &[u8], behind: u8)
     let head = [0x00u8, 0x83u8, 0x00u8, behind];
     room::put_short(room, 0, &head);
     room::put_short(room, 4, &TEXT_HEAD);
-    texts::put_spaced(room, 16, identify::model(block));
-    texts::put_spaced(room, 56, identify::serial(block));
+    texts::put_each(room, 16, identify::model(block), true);
+    texts::put_each(room, 56, identify::serial(block), true);
 }
 
-// Writes the ports that are chosen into the room behind the drive's descriptor, which ends at a place that the room has.
-fn store_ports(room: &mut [u8], end: usize, ports: Ports, address: &[u8])
-    requires { ⌜ (wrongAddress ports (now address) ≡ false) × (end ≤ length (now room)) ⌝ }
-    ensures { λ _. ⌜ Wrote (now (room .entry)) end (portsPart ports (now (address .entry))) (now (room .exit)) ⌝ }
+// Writes the ports that are chosen behind a page without them, whose end is told, and into its head how many bytes are behind it now.
+fn store_ports(room: &mut [u8], end: usize, behind: u8, ports: Ports, address: &[u8])
+    requires { ⌜ (wrongAddress ports (now address) ≡ false) × ((4 ≤ end) × (end + portsSize ports ≤ length (now room))) ⌝ }
+    ensures { λ _. ⌜ Grows ports (now (address .entry)) end behind (now (room .entry)) (now (room .exit)) ⌝ }
 {
     if port::chosen(ports) {
-        port::put(&mut room[end..], ports, address);
+        room::put_byte(room, 0, 3, behind);
+        port::store(room, end, ports, address);
     }
 }
 
-// The same into as much room as is left there.
+// Writes the ports that are chosen behind the drive's descriptor, as much of them as fits there.
 fn put_ports(room: &mut [u8], end: usize, ports: Ports, address: &[u8])
     requires { ⌜ wrongAddress ports (now address) ≡ false ⌝ }
     ensures { λ _. ⌜ Wrote (now (room .entry)) end (portsPart ports (now (address .entry))) (now (room .exit)) ⌝ }
@@ -157,6 +159,47 @@ pub fn size(block: &[u8], ports: Ports) -> usize
     76 + grown
 }
 
+// Writes the page of a drive that carries a name, where neither an allocation length nor the room cuts it: then its size comes back.
+fn put_whole_name(room: &mut [u8], block: &[u8], ports: Ports, address: &[u8], most: usize) -> usize
+    requires { ⌜ (length (now block) ≡ 512) × ((wrongAddress ports (now address) ≡ false) × (carriesName (now block) ≡ true)) ⌝ }
+    ensures { λ r. ⌜ Whole (page83 (now (block .entry)) ports (now (address .entry))) most (now (room .entry)) r (now (room .exit)) ⌝ }
+{
+    let grown = port::size(ports);
+    let size = 16 + grown as usize;
+    if rules::lesser(most, room.len()) < size {
+        return 0;
+    }
+    store_name(room, block, 12);
+    store_ports(room, 16, 12 + grown, ports, address);
+    size
+}
+
+// The same of a drive that carries none.
+fn put_whole_texts(room: &mut [u8], block: &[u8], ports: Ports, address: &[u8], most: usize) -> usize
+    requires { ⌜ (length (now block) ≡ 512) × ((wrongAddress ports (now address) ≡ false) × (carriesName (now block) ≡ false)) ⌝ }
+    ensures { λ r. ⌜ Whole (page83 (now (block .entry)) ports (now (address .entry))) most (now (room .entry)) r (now (room .exit)) ⌝ }
+{
+    let grown = port::size(ports);
+    let size = 76 + grown as usize;
+    if rules::lesser(most, room.len()) < size {
+        return 0;
+    }
+    store_texts(room, block, 72);
+    store_ports(room, 76, 72 + grown, ports, address);
+    size
+}
+
+// Writes the page of a block where nothing cuts it, as nearly every host asks for it: what fits of each piece need not be counted.
+pub fn put_whole(room: &mut [u8], block: &[u8], ports: Ports, address: &[u8], most: usize) -> usize
+    requires { ⌜ (length (now block) ≡ 512) × (wrongAddress ports (now address) ≡ false) ⌝ }
+    ensures { λ r. ⌜ Whole (page83 (now (block .entry)) ports (now (address .entry))) most (now (room .entry)) r (now (room .exit)) ⌝ }
+{
+    if identify::carries_name(block) {
+        return put_whole_name(room, block, ports, address, most);
+    }
+    put_whole_texts(room, block, ports, address, most)
+}
+
 // The writer's answer.
 fn wrote(number: u8, count: usize) -> Written
     ensures { λ r. ⌜ r ≡ record { number = number; count = count } ⌝ }
@@ -186,15 +229,15 @@ pub fn write(block: &[u8], ports: Ports, address: &[u8], room: &mut [u8]) -> Wri
         if room.len() < size {
             return wrote(8, 0);
         }
-        store_name(room, block, 12 + grown);
-        store_ports(room, 16, ports, address);
+        store_name(room, block, 12);
+        store_ports(room, 16, 12 + grown, ports, address);
         return wrote(0, size);
     }
     let size = 76 + grown as usize;
     if room.len() < size {
         return wrote(8, 0);
     }
-    store_texts(room, block, 72 + grown);
-    store_ports(room, 76, ports, address);
+    store_texts(room, block, 72);
+    store_ports(room, 76, 72 + grown, ports, address);
     wrote(0, size)
 }

@@ -4,7 +4,7 @@ use crate::Ports;
 ghost use mathlib.Core.Path.{_≡_};
 ghost use mathlib.Core.Bool.{Bool, false, _||_};
 ghost use mathlib.Core.List.{List};
-ghost use Prim.Native.Nat.{ℕ, _≤_};
+ghost use Prim.Native.Nat.{ℕ, _+_, _≤_};
 ghost use lib.ListN.{length};
 ghost use Rattle.room.specs.Room.{Wrote};
 ghost use Rattle.page83.specs.Ports.{relativeChosen, sasChosen, isPort, relativePart, sasPart, portsPart, wrongAddress, wrongPort};
@@ -82,7 +82,43 @@ pub fn size(ports: Ports) -> u8
     0
 }
 
-// The relative target port, where it is chosen; where its descriptor ends comes back.
+// The relative target port, where it is chosen, in room that holds it; where its descriptor ends comes back.
+fn store_relative(room: &mut [u8], at: usize, ports: Ports) -> usize
+    requires { ⌜ at + length (relativePart ports) ≤ length (now room) ⌝ }
+    ensures end { λ r. ⌜ r ≡ at + length (relativePart ports) ⌝ }
+    ensures room { λ _. ⌜ Wrote (now (room .entry)) at (relativePart ports) (now (room .exit)) ⌝ }
+{
+    if relative_chosen(ports) {
+        let high = (ports.relative / 256) as u8;
+        let low = (ports.relative % 256) as u8;
+        room::store_four(room, at, 0x61, 0x94, 0x00, 0x04);
+        room::store_four(room, at + 4, 0x00, 0x00, high, low);
+        return at + 8;
+    }
+    at
+}
+
+// The SAS target port, where it is chosen, in room that holds it.
+fn store_sas(room: &mut [u8], at: usize, ports: Ports, address: &[u8])
+    requires { ⌜ (wrongAddress ports (now address) ≡ false) × (at + length (sasPart ports (now address)) ≤ length (now room)) ⌝ }
+    ensures { λ _. ⌜ Wrote (now (room .entry)) at (sasPart ports (now (address .entry))) (now (room .exit)) ⌝ }
+{
+    if sas_chosen(ports) {
+        room::store(room, at, &SAS_HEAD);
+        room::store(room, at + 4, &address[..8]);
+    }
+}
+
+// Writes the descriptors that are chosen into room that holds them.
+pub fn store(room: &mut [u8], at: usize, ports: Ports, address: &[u8])
+    requires { ⌜ (wrongAddress ports (now address) ≡ false) × (at + length (portsPart ports (now address)) ≤ length (now room)) ⌝ }
+    ensures { λ _. ⌜ Wrote (now (room .entry)) at (portsPart ports (now (address .entry))) (now (room .exit)) ⌝ }
+{
+    let end = store_relative(room, at, ports);
+    store_sas(room, end, ports, address);
+}
+
+// The relative target port, as much of it as fits, where it is chosen; where its descriptor ends comes back.
 fn put_relative(room: &mut [u8], ports: Ports) -> usize
     ensures end { λ r. ⌜ r ≡ length (relativePart ports) ⌝ }
     ensures room { λ _. ⌜ Wrote (now (room .entry)) 0 (relativePart ports) (now (room .exit)) ⌝ }
@@ -104,7 +140,7 @@ fn put_relative(room: &mut [u8], ports: Ports) -> usize
     0
 }
 
-// The SAS target port, where it is chosen.
+// The SAS target port, as much of it as fits, where it is chosen.
 fn put_sas(room: &mut [u8], ports: Ports, address: &[u8])
     requires { ⌜ wrongAddress ports (now address) ≡ false ⌝ }
     ensures { λ _. ⌜ Wrote (now (room .entry)) 0 (sasPart ports (now (address .entry))) (now (room .exit)) ⌝ }

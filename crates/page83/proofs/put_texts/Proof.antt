@@ -3,7 +3,6 @@ use mathlib.Core.Path.{refl}
 use native.Mathlib.Omega.{arith}
 use Rattle.room.proofs.Laws.{beside}
 use Rattle.identify.specs.Block.{model}
-use Rattle.identify.proofs.Block.{length-serial, length-model}
 use Rattle.texts.specs.Text.{turned, spaced}
 use Rattle.page83.proofs.Laws.{length-model-text}
 use borrow.Author.Needs.{needs}
@@ -34,18 +33,14 @@ put-short-requires-2 c κs = search needs
 model-requires : tie.Need-model-requires
 model-requires c κs = search needs
 
-put-spaced-requires : tie.Need-put-spaced-requires
-put-spaced-requires c κs =
-    let a = c .before .before .before .before .before .before .before .before .before .before .before .before .before .before .before in
-    rw (c .model .ensures, length-model (a .args .block .now) (a .pre)) (omega arith)
+put-each-requires : tie.Need-put-each-requires
+put-each-requires c κs = search needs
 
 serial-requires : tie.Need-serial-requires
 serial-requires c κs = search needs
 
-put-spaced-requires-2 : tie.Need-put-spaced-requires-2
-put-spaced-requires-2 c κs =
-    let a = c .before .before .before .before .before .before .before .before .before .before .before .before .before .before .before .before .before .before .before .before in
-    rw (c .serial .ensures, length-serial (a .args .block .now) (a .pre)) (omega arith)
+put-each-requires-2 : tie.Need-put-each-requires-2
+put-each-requires-2 c κs = search needs
 
 same-length-2 : tie.Need-same-length-2
 same-length-2 c = search needs
@@ -54,8 +49,8 @@ returns-2 : tie.Need-returns-2
 returns-2 c =
     let a = c .before .before .before .before .before .before .before .before .before .before .before .before .before .before .before .before .before .before .before .before .before .before .before in
     let vendor = beside (c .before .before .before .before .before .before .before .before .before .before .before .before .before .before .before .before .before .put-short .ensures) (c .before .before .before .before .before .before .before .before .before .before .before .before .put-short2 .ensures) refl in
-    beside (beside {t = spaced (turned (model (a .args .block .now)))} vendor (rw (c .before .before .before .before .before .before .before .before .model .ensures) at (c .before .before .before .before .before .before .before .put-spaced .ensures)) refl)
-    (rw (c .before .before .before .serial .ensures) at (c .before .before .put-spaced2 .ensures)) (omega (arith, length-model-text (a .args .block .now) (a .pre)))
+    beside (beside {t = spaced (turned (model (a .args .block .now)))} vendor (rw (c .before .before .before .before .before .before .before .before .model .ensures) at (c .before .before .before .before .before .before .before .put-each .ensures)) refl)
+    (rw (c .before .before .before .serial .ensures) at (c .before .before .put-each2 .ensures)) (omega (arith, length-model-text (a .args .block .now) (a .pre)))
 
 pub put-texts-spec : {M : Type 1} → statement M
 put-texts-spec =
@@ -69,8 +64,8 @@ put-texts-spec =
     slice-aggregate-put-short-2
     put-short-requires-2
     model-requires
-    put-spaced-requires
+    put-each-requires
     serial-requires
-    put-spaced-requires-2
+    put-each-requires-2
     same-length-2
     returns-2)

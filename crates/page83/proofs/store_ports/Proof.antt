@@ -1,8 +1,10 @@
--- `store_ports`: behind the place, where there is anything to write.
-use mathlib.Core.Path.{refl, _∙_, sym}
-use Rattle.room.proofs.Laws.{mid-page}
-use Rattle.page83.proofs.Laws.{nothing-chosen}
+-- `store_ports`: the length put again, and the ports behind the page, where any is chosen.
+use mathlib.Core.Path.{_≡_, _∙_, sym}
+use mathlib.Core.List.{append-nil}
 use native.Mathlib.Omega.{arith}
+use lib.ListN.{length}
+use Rattle.room.proofs.Laws.{beside}
+use Rattle.page83.proofs.Laws.{length-ports, nothing-chosen, nothing-sized, head-again}
 use borrow.Author.Needs.{needs}
 use Rattle.page83.proofs.store_ports.Statement.{statement}
 use Rattle.page83.proofs.store_ports.Tie as tie
@@ -10,38 +12,36 @@ use Rattle.page83.proofs.store_ports.Tie as tie
 chosen-requires : tie.Need-chosen-requires
 chosen-requires c κs = search needs
 
-sub-put : tie.Need-sub-put
-sub-put c = search needs
+put-byte-requires : tie.Need-put-byte-requires
+put-byte-requires c κs = search needs
 
-part-put-start : tie.Need-part-put-start
-part-put-start c = search needs
-
-part-put-end : tie.Need-part-put-end
-part-put-end c = search needs
-
-put-requires : tie.Need-put-requires
-put-requires c κs = search needs
+store-requires : tie.Need-store-requires
+store-requires c κs = (c .before .before .before .before .before .before .before .before .before .pre .0, omega (arith, c .before .before .before .before .before .before .before .before .before .pre .1 .1, length-ports (c .before .before .before .before .before .before .before .before .before .args .ports) (c .before .before .before .before .before .before .before .before .before .args .address .now) (c .before .before .before .before .before .before .before .before .before .pre .0)))
 
 same-length : tie.Need-same-length
 same-length c = search needs
 
 returns : tie.Need-returns
-returns c = mid-page (c .before .before .before .before .before .before .before .before .args .end) (c .before .before .before .before .before .before .before .before .args .end) (omega (arith, c .before .before .before .before .before .before .before .before .pre .1)) (c .before .before .put .ensures)
+returns c =
+    let a = c .before .before .before .before .before .before .before .before .before .before .before .before in
+    λ before drive e l w.
+    beside (head-again (omega (arith, a .pre .1 .0, a .pre .1 .1)) w (c .before .before .before .before .before .before .put-byte .ensures)) (c .before .before .store .ensures) (omega (arith, e))
 
 returns-2 : tie.Need-returns-2
 returns-2 c =
     let a = c .before .before .before .before .args in
-    rw (nothing-chosen (a .ports) (a .address .now) (sym (c .before .chosen .ensures) ∙ c .if1 .left)) (record { leaves = refl })
+    let none = sym (c .before .chosen .ensures) ∙ c .if1 .left in
+    λ before drive e l w.
+    let same : a .behind ≡ length drive = omega (arith, l, nothing-sized (a .ports) none) in
+    rw (nothing-chosen (a .ports) (a .address .now) none, append-nil drive, same) w
 
 pub store-ports-spec : {M : Type 1} → statement M
 store-ports-spec =
     tie.close
     (tie.spec
     chosen-requires
-    sub-put
-    part-put-start
-    part-put-end
-    put-requires
+    put-byte-requires
+    store-requires
     same-length
     returns
     returns-2)

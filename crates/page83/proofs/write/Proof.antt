@@ -1,11 +1,10 @@
 -- `write`: the checks in order, then the page of its form, and the ports.
-use mathlib.Core.Path.{_∙_, sym}
-use Prim.Native.Nat.{_+_}
+use mathlib.Core.Path.{_∙_, sym, ap}
+use Prim.Native.Nat.{ℕ, _+_}
 use native.Mathlib.Omega.{arith}
 use borrow.Author.Tests.{eq-eqb, ne-eqb}
-use Rattle.room.proofs.Laws.{beside}
 use Rattle.page83.specs.Page83.{refusalOf, write}
-use Rattle.page83.proofs.Laws.{page-size, named-page, unnamed-page, named-end, unnamed-end, too-little, enough}
+use Rattle.page83.proofs.Laws.{page-size, grown-name, grown-texts, too-little, enough}
 use borrow.Author.Needs.{needs}
 use Rattle.page83.proofs.write.Statement.{statement}
 use Rattle.page83.proofs.write.Tie as tie
@@ -74,14 +73,14 @@ returns-5 c =
     let size = rw (form, ← grown) at (page-size (a .block .now) (a .ports) (a .address .now) whole right) in
     rw (c .wrote5 .ensures) (sym (too-little (a .block .now) (a .ports) (a .address .now) (a .room .now) whole right passes port size (c .before .if6 .taken)))
 
-add-store-name : tie.Need-add-store-name
-add-store-name c = search needs
-
 store-name-requires : tie.Need-store-name-requires
 store-name-requires c κs = search needs
 
+add-store-ports : tie.Need-add-store-ports
+add-store-ports c = search needs
+
 store-ports-requires : tie.Need-store-ports-requires
-store-ports-requires c κs = (sym (c .before .before .before .before .before .before .before .before .before .before .before .before .before .before .wrong-address .ensures) ∙ c .before .before .before .before .before .before .before .before .before .before .before .before .before .if2 .left, omega arith)
+store-ports-requires c κs = (sym (c .before .before .before .before .before .before .before .before .before .before .before .before .before .before .wrong-address .ensures) ∙ c .before .before .before .before .before .before .before .before .before .before .before .before .before .if2 .left, (omega arith, omega (arith, c .before .before .before .before .before .before .before .before .size .ensures .0)))
 
 wrote-requires-6 : tie.Need-wrote-requires-6
 wrote-requires-6 c κs = search needs
@@ -99,9 +98,8 @@ returns-6 c =
     let right = sym (c .before .before .before .before .before .before .before .before .before .before .before .before .before .before .before .before .before .before .wrong-address .ensures) ∙ c .before .before .before .before .before .before .before .before .before .before .before .before .before .before .before .before .before .if2 .left in
     let whole = c .before .before .before .before .before .before .before .before .before .before .before .before .before .before .before .before .before .before .before .if1 .left in
     let size = rw (form, ← grown) at (page-size (a .block .now) (a .ports) (a .address .now) whole right) in
-    let page = named-page (a .block .now) (a .ports) (a .address .now) whole right form in
-    let both = beside (c .before .before .before .before .before .before .before .store-name .ensures) (c .before .before .before .store-ports .ensures) (named-end (a .block .now) whole) in
-    rw (c .wrote6 .ensures, both .leaves, grown, ← page) (sym (rw grown at (enough (a .block .now) (a .ports) (a .address .now) (a .room .now) whole right passes port size (c .before .before .before .before .before .before .before .before .before .if6 .left))))
+    let page = grown-name (a .block .now) (a .ports) (a .address .now) whole right form (ap (λ (n : ℕ). 12 + n) grown) (c .before .before .before .before .before .before .before .store-name .ensures) (c .before .before .before .store-ports .ensures) in
+    rw (c .wrote6 .ensures, page .leaves) (sym (enough (a .block .now) (a .ports) (a .address .now) (a .room .now) whole right passes port size (c .before .before .before .before .before .before .before .before .before .if6 .left)))
 
 cast-size-2 : tie.Need-cast-size-2
 cast-size-2 c = search needs
@@ -124,14 +122,14 @@ returns-7 c =
     let size = rw (form, ← grown) at (page-size (a .block .now) (a .ports) (a .address .now) whole right) in
     rw (c .wrote7 .ensures) (sym (too-little (a .block .now) (a .ports) (a .address .now) (a .room .now) whole right passes port size (c .before .if7 .taken)))
 
-add-store-texts : tie.Need-add-store-texts
-add-store-texts c = search needs
-
 store-texts-requires : tie.Need-store-texts-requires
 store-texts-requires c κs = search needs
 
+add-store-ports-2 : tie.Need-add-store-ports-2
+add-store-ports-2 c = search needs
+
 store-ports-requires-2 : tie.Need-store-ports-requires-2
-store-ports-requires-2 c κs = (sym (c .before .before .before .before .before .before .before .before .before .before .before .before .before .before .wrong-address .ensures) ∙ c .before .before .before .before .before .before .before .before .before .before .before .before .before .if2 .left, omega arith)
+store-ports-requires-2 c κs = (sym (c .before .before .before .before .before .before .before .before .before .before .before .before .before .before .wrong-address .ensures) ∙ c .before .before .before .before .before .before .before .before .before .before .before .before .before .if2 .left, (omega arith, omega (arith, c .before .before .before .before .before .before .before .before .size .ensures .0)))
 
 wrote-requires-8 : tie.Need-wrote-requires-8
 wrote-requires-8 c κs = search needs
@@ -149,9 +147,8 @@ returns-8 c =
     let right = sym (c .before .before .before .before .before .before .before .before .before .before .before .before .before .before .before .before .before .before .wrong-address .ensures) ∙ c .before .before .before .before .before .before .before .before .before .before .before .before .before .before .before .before .before .if2 .left in
     let whole = c .before .before .before .before .before .before .before .before .before .before .before .before .before .before .before .before .before .before .before .if1 .left in
     let size = rw (form, ← grown) at (page-size (a .block .now) (a .ports) (a .address .now) whole right) in
-    let page = unnamed-page (a .block .now) (a .ports) (a .address .now) whole right form in
-    let both = beside (c .before .before .before .before .before .before .before .store-texts .ensures) (c .before .before .before .store-ports2 .ensures) (unnamed-end (a .block .now) whole) in
-    rw (c .wrote8 .ensures, both .leaves, grown, ← page) (sym (rw grown at (enough (a .block .now) (a .ports) (a .address .now) (a .room .now) whole right passes port size (c .before .before .before .before .before .before .before .before .before .if7 .left))))
+    let page = grown-texts (a .block .now) (a .ports) (a .address .now) whole right form (ap (λ (n : ℕ). 72 + n) grown) (c .before .before .before .before .before .before .before .store-texts .ensures) (c .before .before .before .store-ports2 .ensures) in
+    rw (c .wrote8 .ensures, page .leaves) (sym (enough (a .block .now) (a .ports) (a .address .now) (a .room .now) whole right passes port size (c .before .before .before .before .before .before .before .before .before .if7 .left)))
 
 pub write-spec : {M : Type 1} → statement M
 write-spec =
@@ -174,8 +171,8 @@ write-spec =
     add-size
     wrote-requires-5
     returns-5
-    add-store-name
     store-name-requires
+    add-store-ports
     store-ports-requires
     wrote-requires-6
     same-length
@@ -184,8 +181,8 @@ write-spec =
     add-size-2
     wrote-requires-7
     returns-7
-    add-store-texts
     store-texts-requires
+    add-store-ports-2
     store-ports-requires-2
     wrote-requires-8
     same-length-2
