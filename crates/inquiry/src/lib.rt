@@ -1,13 +1,18 @@
 // Inquiry: the entry that answers INQUIRY, and the part that an answer shows. The rule stands in specs/Inquiry.
 use page83::Ports;
 ghost use mathlib.Core.Path.{_≡_};
+ghost use mathlib.Core.Bool.{Bool, true, false};
 ghost use mathlib.Core.List.{List};
+ghost use Prim.Native.Nat.{_≤_};
 ghost use lib.ListN.{length};
 ghost use Rattle.room.specs.Room.{Wrote};
+ghost use Rattle.page83.specs.Ports.{wrongAddress};
+ghost use Rattle.page83.specs.Page83.{page83};
+ghost use Rattle.page83.specs.Helpers.{Whole};
 ghost use Rattle.sense.specs.Refusal.{rowOf, refusedSense};
 ghost use Rattle.sense.specs.Helpers.{Roomy};
 ghost use Rattle.inquiry_checks.specs.Request.{request};
-ghost use Rattle.inquiry_checks.specs.Helpers.{Servable};
+ghost use Rattle.inquiry_checks.specs.Helpers.{driveAsked, fromBlock, Servable};
 ghost use Rattle.inquiry_checks.specs.Asked.{page as Inquiry·page};
 ghost use Rattle.inquiry.specs.Inquiry.{outcome, inquiry as Inquiry·inquiry, part as Inquiry·part};
 
@@ -57,6 +62,26 @@ fn put_page(
         return;
     }
     pages::put_information(room, packet, texts, signature, block);
+}
+
+// Writes page 83h where it is asked for and neither the allocation length nor the room cuts it: then its size comes back, and else 0.
+fn put_whole_page83(
+    room: &mut [u8],
+    packet: bool,
+    command: &[u8],
+    block: &[u8],
+    ports: Ports,
+    address: &[u8],
+    allocation: usize,
+) -> usize
+    requires { ⌜ (6 ≤ length (now command)) × ((fromBlock packet (now command) ≡ true → length (now block) ≡ 512) × (wrongAddress ports (now address) ≡ false)) ⌝ }
+    ensures asked { λ r. ⌜ ((r ≡ 0 → ⊥) → driveAsked packet (now (command .entry)) ≡ true) ⌝ }
+    ensures page { λ r. ⌜ Whole (page83 (now (block .entry)) ports (now (address .entry))) allocation (now (room .entry)) r (now (room .exit)) ⌝ }
+{
+    if inquiry_checks::drive_asked(packet, command) {
+        return page83::put_whole(room, block, ports, address, allocation);
+    }
+    0
 }
 
 // A refusal: an empty part of the room, and the sense bytes of its row.
@@ -110,6 +135,15 @@ pub fn inquiry(
             status: sense::GOOD,
             shown: 0,
             count: rules::lesser(reply.len(), allocation),
+        };
+    }
+    let whole = put_whole_page83(room, packet, command, block, ports, address, allocation);
+    if whole != 0 {
+        return Answer {
+            number: 0,
+            status: sense::GOOD,
+            shown: 1,
+            count: whole,
         };
     }
     let size = inquiry_checks::size(packet, command, block, reply, ports);

@@ -1,6 +1,6 @@
 -- Laws of the INQUIRY entry: what the checks leave true once they have passed, and the page's size.
 use mathlib.Core.Path.{_≡_, refl, sym, _∙_}
-use mathlib.Core.Bool.{Bool, true, false, cond, _&&_, _||_, not, and-eq-true-iff, or-true, true≢false}
+use mathlib.Core.Bool.{Bool, true, false, cond, _&&_, _||_, not, and-eq-true-iff, and-false, or-true, true≢false}
 use mathlib.Core.List.{List}
 use Prim.Native.Nat.{ℕ, _+_, _≤_}
 use lib.Dec.{eqb, ltb}
@@ -13,13 +13,14 @@ use Rattle.pages.specs.Page.{page00, page89, blockOrZeros}
 use Rattle.pages.proofs.Laws.{length-page89}
 use Rattle.page83.specs.declared.Ports.{Ports}
 use Rattle.page83.specs.Ports.{wrongAddress}
+use Rattle.page83.specs.Page83.{page83}
 use Rattle.page83.proofs.Laws.{page-size}
 use Rattle.packet.specs.Packet.{unusable}
 use Rattle.inquiry_fields.specs.Fields.{evpd, cmddt, pageCode}
 use Rattle.inquiry_checks.specs.Request.{Request, isPacket, passesThrough}
 use Rattle.inquiry_checks.specs.Checks.{wrongSize, checks, refusalOf}
 use Rattle.inquiry_checks.specs.Asked.{page, toWrite}
-use Rattle.inquiry_checks.specs.Helpers.{sizeOf, earlyRefusal, Servable}
+use Rattle.inquiry_checks.specs.Helpers.{driveAsked, sizeOf, earlyRefusal, Servable}
 
 length-cond : (b : Bool) (x y : List ℕ) → length (cond b x y) ≡ cond b (length x) (length y)
 length-cond true x y = refl
@@ -49,6 +50,13 @@ sized block signature texts ports address sense e =
       right-address = u .1;
       enough = ltb-false _ _ (s .1);
     }
+
+-- Where page 83h is asked for, it is the page.
+pub drive-page : (q : Request) → driveAsked (isPacket q) (q .command) ≡ true → page q ≡ page83 (q .block) (q .ports) (q .address)
+unfolding page
+drive-page q h =
+    let asked = and-eq-true-iff (evpd (q .command)) _ .0 (and-eq-true-iff (not (isPacket q)) _ .0 h .1) in
+    rw (asked .0, and-false (not (isPacket q)), eqb-true (pageCode (q .command)) 0x83 (asked .1))
 
 -- The page's size does not hang on what the texts and the signature say.
 pub length-page : (q : Request) → Servable q → length (page q) ≡ sizeOf (isPacket q) (q .command) (q .block) (q .reply) (q .ports)

@@ -16,6 +16,10 @@ use Rattle.inquiry_fields.specs.Fields.{evpd, pageCode}
 use Rattle.inquiry_checks.specs.Request.{Request, request, isPacket}
 use Rattle.inquiry_checks.specs.Checks.{checks}
 
+-- Whether page 83h is asked for.
+abbrev pub driveAsked : Bool → List ℕ → Bool
+driveAsked packet command = not packet && (evpd command && eqb (pageCode command) 0x83)
+
 -- The size of the page that is asked for, which looks at fewer of the lent pieces than the page.
 unfoldable pub sizeOf : Bool → List ℕ → List ℕ → List ℕ → Ports → ℕ
 sizeOf packet command block reply ports =

@@ -11,7 +11,7 @@ ghost use lib.ListN.{length};
 ghost use Rattle.inquiry_fields.specs.Fields.{evpd};
 ghost use Rattle.inquiry_checks.specs.Request.{request, passesThrough};
 ghost use Rattle.inquiry_checks.specs.Checks.{wrongSize, wrongField, knownPage, wrongPage, noBlock, noPort, noList};
-ghost use Rattle.inquiry_checks.specs.Helpers.{fromBlock, sizeOf, commandRefusal, earlyRefusal};
+ghost use Rattle.inquiry_checks.specs.Helpers.{driveAsked, fromBlock, sizeOf, commandRefusal, earlyRefusal};
 
 // Neither 512 bytes nor none.
 fn wrong_block(block: usize) -> bool
@@ -119,21 +119,29 @@ fn no_block(packet: bool, command: &[u8], block: &[u8]) -> bool
     command[2] == 0x83
 }
 
+// Whether page 83h is asked for.
+pub fn drive_asked(packet: bool, command: &[u8]) -> bool
+    requires { ⌜ 6 ≤ length (now command) ⌝ }
+    ensures { λ r. ⌜ r ≡ driveAsked packet (now (command .entry)) ⌝ }
+{
+    if packet {
+        return false;
+    }
+    if inquiry_fields::evpd(command) {
+        return command[2] == 0x83;
+    }
+    false
+}
+
 // 19: page 83h, and a port that is not 1 or 2.
 fn no_port(packet: bool, command: &[u8], ports: Ports) -> bool
     requires { ⌜ 6 ≤ length (now command) ⌝ }
     ensures { λ r. ⌜ r ≡ (not packet && noPort (now (command .entry)) ports) ⌝ }
 {
-    if packet {
-        return false;
+    if drive_asked(packet, command) {
+        return port::wrong_port(ports);
     }
-    if !inquiry_fields::evpd(command) {
-        return false;
-    }
-    if command[2] != 0x83 {
-        return false;
-    }
-    port::wrong_port(ports)
+    false
 }
 
 // Whether a packet drive's own reply is shown.

@@ -175,7 +175,13 @@ fn put_whole_name(room: &mut [u8], block: &[u8], ports: Ports, address: &[u8], m
 }
 
 // The same of a drive that carries none.
-fn put_whole_texts(room: &mut [u8], block: &[u8], ports: Ports, address: &[u8], most: usize) -> usize
+fn put_whole_texts(
+    room: &mut [u8],
+    block: &[u8],
+    ports: Ports,
+    address: &[u8],
+    most: usize,
+) -> usize
     requires { ⌜ (length (now block) ≡ 512) × ((wrongAddress ports (now address) ≡ false) × (carriesName (now block) ≡ false)) ⌝ }
     ensures { λ r. ⌜ Whole (page83 (now (block .entry)) ports (now (address .entry))) most (now (room .entry)) r (now (room .exit)) ⌝ }
 {

@@ -1,39 +1,45 @@
--- `no_port`: each way by its tests.
-use mathlib.Core.Path.{_∙_, sym}
-use borrow.Author.Tests.{eq-eqb, ne-eqb, not-true, not-false}
+-- `no_port`: where page 83h is asked for, by the port.
+use mathlib.Core.Path.{_≡_, refl, _∙_, sym}
+use mathlib.Core.Bool.{Bool, true, false, _&&_, not, true≢false}
+use Rattle.page83.specs.Ports.{wrongPort}
+use Rattle.inquiry_fields.specs.Fields.{evpd}
 use borrow.Author.Needs.{needs}
 use Rattle.inquiry_checks.proofs.no_port.Statement.{statement}
 use Rattle.inquiry_checks.proofs.no_port.Tie as tie
 
-returns : tie.Need-returns
-returns c = simp (c .if1 .taken)
+drive-port : (not-packet evpd code wrong : Bool) → (not-packet && (evpd && code)) ≡ true → (not-packet && (evpd && code && wrong)) ≡ wrong
+drive-port true true true wrong h = refl
+drive-port true true false wrong h = absurd (true≢false (sym h))
+drive-port true false code wrong h = absurd (true≢false (sym h))
+drive-port false evpd code wrong h = absurd (true≢false (sym h))
 
-evpd-requires : tie.Need-evpd-requires
-evpd-requires c κs = search needs
+no-drive : (not-packet evpd code wrong : Bool) → (not-packet && (evpd && code)) ≡ false → (not-packet && (evpd && code && wrong)) ≡ false
+no-drive true true true wrong h = absurd (true≢false h)
+no-drive true true false wrong h = refl
+no-drive true false code wrong h = refl
+no-drive false evpd code wrong h = refl
 
-returns-2 : tie.Need-returns-2
-returns-2 c = simp (sym (c .before .evpd .ensures) ∙ not-true _ (c .if2 .taken), c .before .before .if1 .left)
-
-shared-slice-read-if3 : tie.Need-shared-slice-read-if3
-shared-slice-read-if3 c = search needs
-
-returns-3 : tie.Need-returns-3
-returns-3 c = simp (ne-eqb _ _ (c .if3 .taken), sym (c .before .before .before .evpd .ensures) ∙ not-false _ (c .before .before .if2 .left), c .before .before .before .before .if1 .left)
+drive-asked-requires : tie.Need-drive-asked-requires
+drive-asked-requires c κs = search needs
 
 wrong-port-requires : tie.Need-wrong-port-requires
 wrong-port-requires c κs = search needs
 
-returns-4 : tie.Need-returns-4
-returns-4 c = simp (eq-eqb _ _ (c .before .if3 .left), c .wrong-port .ensures, sym (c .before .before .before .before .evpd .ensures) ∙ not-false _ (c .before .before .before .if2 .left), c .before .before .before .before .before .if1 .left)
+returns : tie.Need-returns
+returns c =
+    let a = c .before .before .before .before .args in
+    c .wrong-port .ensures ∙ sym (drive-port (not (a .packet)) (evpd (a .command .now)) _ (wrongPort (a .ports)) (sym (c .before .before .drive-asked .ensures) ∙ c .before .if1 .taken))
+
+returns-2 : tie.Need-returns-2
+returns-2 c =
+    let a = c .before .before .before .args in
+    sym (no-drive (not (a .packet)) (evpd (a .command .now)) _ (wrongPort (a .ports)) (sym (c .before .drive-asked .ensures) ∙ c .if1 .left))
 
 pub no-port-spec : {M : Type 1} → statement M
 no-port-spec =
     tie.close
     (tie.spec
-    returns
-    evpd-requires
-    returns-2
-    shared-slice-read-if3
-    returns-3
+    drive-asked-requires
     wrong-port-requires
-    returns-4)
+    returns
+    returns-2)

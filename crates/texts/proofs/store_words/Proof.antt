@@ -92,8 +92,8 @@ returns : tie.Need-returns
 returns c =
     let a = c .before .before .before .before .before .before .before .before .before .before .before .before .before .before .before .before .before .before .before .before .before .before .before .before .before .before in
     rw (four-words (shown (a .args .spaced)) (a .args .text .now) (a .args .i) (a .pre .1 .1) (a .pre .1 .0)) (
-      beside (rw (c .before .before .before .before .before .before .before .before .before .before .before .before .before .before .before .before .before .before .before .before .before .before .shown .ensures, c .before .before .before .before .before .before .before .before .before .before .before .before .before .before .before .before .before .before .before .before .shown2 .ensures, c .before .before .before .before .before .before .before .before .before .before .before .before .before .before .before .before .before .before .shown3 .ensures, c .before .before .before .before .before .before .before .before .before .before .before .before .before .before .before .before .shown4 .ensures) at (c .before .before .before .before .before .before .store-four .ensures))
-          (rw (c .before .before .before .before .before .before .before .before .before .before .before .before .before .before .shown5 .ensures, c .before .before .before .before .before .before .before .before .before .before .before .before .shown6 .ensures, c .before .before .before .before .before .before .before .before .before .before .shown7 .ensures, c .before .before .before .before .before .before .before .before .shown8 .ensures) at (c .before .before .store-four2 .ensures)) refl)
+    beside (rw (c .before .before .before .before .before .before .before .before .before .before .before .before .before .before .before .before .before .before .before .before .before .before .shown .ensures, c .before .before .before .before .before .before .before .before .before .before .before .before .before .before .before .before .before .before .before .before .shown2 .ensures, c .before .before .before .before .before .before .before .before .before .before .before .before .before .before .before .before .before .before .shown3 .ensures, c .before .before .before .before .before .before .before .before .before .before .before .before .before .before .before .before .shown4 .ensures) at (c .before .before .before .before .before .before .store-four .ensures))
+    (rw (c .before .before .before .before .before .before .before .before .before .before .before .before .before .before .shown5 .ensures, c .before .before .before .before .before .before .before .before .before .before .before .before .shown6 .ensures, c .before .before .before .before .before .before .before .before .before .before .shown7 .ensures, c .before .before .before .before .before .before .before .before .shown8 .ensures) at (c .before .before .store-four2 .ensures)) refl)
 
 pub store-words-spec : {M : Type 1} → statement M
 store-words-spec =
