@@ -6,10 +6,11 @@ use page83::port;
 use page83::port::RELATIVE_HEAD;
 use page83::port::SAS_HEAD;
 ghost use mathlib.Core.Path.{_≡_};
-ghost use mathlib.Core.Bool.{Bool, true};
+ghost use mathlib.Core.Bool.{Bool, true, cond};
 ghost use mathlib.Core.List.{List};
 ghost use Prim.Native.Nat.{_≤_};
-ghost use lib.ListN.{length, drop};
+ghost use lib.Dec.{eqb};
+ghost use lib.ListN.{length, take, drop};
 ghost use Rattle.page83_reader.specs.Reader.{noZero, headed as Reader·headed, namesDrive, tellsTexts, relativeIn, behindRelative, sasOrNothing, portsOf, addressOf, inSixty, refused as Reader·refused, told as Reader·told, read as Reader·read};
 
 // What the reader gives: 0 or 16, the form (1 the world wide name, 2 model and serial number, 0 refused), the name's bytes, the ports
@@ -175,18 +176,51 @@ fn told(form: u8, name: [u8; 60], behind: &[u8]) -> Name
     }
 }
 
-// The name that a page tells, and its ports.
+// The form in which a page names a drive, and 0 where it does not.
+fn form_of(page: &[u8]) -> u8
+    ensures { λ r. ⌜ r ≡ cond (namesDrive (now (page .entry))) 1 (cond (tellsTexts (now (page .entry))) 2 0) ⌝ }
+{
+    if names_drive(page) {
+        return 1;
+    }
+    if tells_texts(page) {
+        return 2;
+    }
+    0
+}
+
+// The name that a page of a form tells, in 60 bytes.
+fn name_of(page: &[u8], form: u8) -> [u8; 60]
+    ensures { λ r. ⌜ r ≡ cond (eqb form 1) (inSixty (take 8 (drop 8 (now (page .entry))))) (inSixty (take 60 (drop 16 (now (page .entry))))) ⌝ }
+{
+    if form == 1 {
+        return in_sixty(rules::part(page, 8, 16));
+    }
+    in_sixty(rules::part(page, 16, 76))
+}
+
+// What stands behind the name of such a page.
+fn behind_name(page: &[u8], form: u8) -> &[u8]
+    requires { ⌜ (form ≡ 1 → 16 ≤ length (now page)) × ((form ≡ 1 → ⊥) → 76 ≤ length (now page)) ⌝ }
+    ensures { λ r. ⌜ now r ≡ cond (eqb form 1) (drop 16 (now (page .entry))) (drop 76 (now (page .entry))) ⌝ }
+{
+    if form == 1 {
+        return &page[16..];
+    }
+    &page[76..]
+}
+
+// The name that a page tells, and its ports. The ports are looked at in one place for both forms, so that the answer is made where it
+// is wanted.
 pub fn read(page: &[u8]) -> Name
     ensures { λ r. ⌜ r ≡ Reader·read (now (page .entry)) ⌝ }
 {
     if !headed(page) {
         return refused();
     }
-    if names_drive(page) {
-        return told(1, in_sixty(rules::part(page, 8, 16)), &page[16..]);
+    let form = form_of(page);
+    if form == 0 {
+        return refused();
     }
-    if tells_texts(page) {
-        return told(2, in_sixty(rules::part(page, 16, 76)), &page[76..]);
-    }
-    refused()
+    told(form, name_of(page, form), behind_name(page, form))
 }
