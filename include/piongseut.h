@@ -62,9 +62,10 @@ extern "C" {
 /*
  * Refusal numbers, each with its status, key, ASC and ASCQ if it has them, and when it is given. A refusal changes nothing that was
  * lent, but for the sense room where there is a key: sense data then stand at its front, in the form that was asked for. They are
- * checked in this order: 1, 17, 18, no command bytes (2), 3, too few command bytes (2), 4 to 6, 19, then 7 upward. A block is damaged
- * if it has 512 bytes, the low byte of its word 255 (byte 510) is A5h, and its bytes do not sum to 0 modulo 256; where one is lent,
- * nothing of it is used. No function asks the sum that an intake carries: each sums the block itself.
+ * checked in this order: 1, 17, 18, no command bytes (2), 3, too few command bytes (2), 4, 20, 5, 6, 19, then 7 upward; for
+ * piongseut_submit 6 stands between 12 and 13. A block is damaged if it has 512 bytes, the low byte of its word 255 (byte 510) is A5h,
+ * and its bytes do not sum to 0 modulo 256; where one is lent, nothing of it is used. No function asks the sum that an intake carries:
+ * each sums the block itself.
  */
 #define PIONGSEUT_ACCEPTED 0                 /*                no refusal; each function says the status */
 #define PIONGSEUT_REFUSED_SIZE 1             /* none           a lent piece has a wrong size (said at each function) */
@@ -72,7 +73,7 @@ extern "C" {
 #define PIONGSEUT_REFUSED_OPCODE 3           /* 02h, 05 20 00  an opcode that the function does not serve */
 #define PIONGSEUT_REFUSED_FIELD 4            /* 02h, 05 24 00  NACA; for INQUIRY also CMDDT, or a page code without EVPD */
 #define PIONGSEUT_REFUSED_PAGE 5             /* 02h, 05 24 00  EVPD and a page that is not 00h, 80h, 83h, 89h */
-#define PIONGSEUT_REFUSED_NO_BLOCK 6         /* 02h, 02 04 00  standard data, 80h or 83h of a drive that gave no block */
+#define PIONGSEUT_REFUSED_NO_BLOCK 6         /* 02h, 02 04 00  the drive gave no block: standard data, 80h, 83h; logical sectors to count */
 #define PIONGSEUT_REFUSED_UNUSABLE 7         /* 02h, 0B 00 00  a packet drive's page 00h, whose own one cannot be used */
 #define PIONGSEUT_REFUSED_ROOM 8             /* none           the output room is shorter than the bytes to write */
 #define PIONGSEUT_REFUSED_PROTOCOL 9         /* 02h, 05 24 00  PROTOCOL is 2, 7, 12, 13 or 14 */
@@ -86,6 +87,7 @@ extern "C" {
 #define PIONGSEUT_REFUSED_CENSUS 17          /* none           a census that is full, or a grouping of which does not sum to its blocks */
 #define PIONGSEUT_REFUSED_DAMAGED 18         /* none           a lent block is damaged */
 #define PIONGSEUT_REFUSED_PORT 19            /* 02h, 05 24 00  page 83h with a relative target port that is not 1 or 2 */
+#define PIONGSEUT_REFUSED_SERVICE_ACTION 20  /* 02h, 05 24 00  opcode 7Fh, and bytes 7 to 9 are not 18h 1Fh F0h */
 
 /* Sizes of what is lent, in bytes; of sense room the least. */
 #define PIONGSEUT_BLOCK_SIZE 512 /* an IDENTIFY block, and the store of an intake */
@@ -190,7 +192,16 @@ piongseut_inquiry_answer piongseut_inquiry(const uint8_t *command, size_t comman
                                            uint8_t *room, size_t room_size,
                                            uint8_t *sense, size_t sense_size);
 
-/* ---- ATA PASS-THROUGH (12) and (16) ---- */
+/* ---- ATA PASS-THROUGH (12), (16) and (32) ---- */
+
+/*
+ * The edition of SAT by which a command is read. Every number but LATER names the first, also 0, which states none. In the later one
+ * the 32-byte command (7Fh) is served, and T_TYPE is looked at: a block count (BYTE_BLOCK one, T_LENGTH 1 or 2) with T_TYPE one counts
+ * the logical sectors of the drive, whose size its IDENTIFY block tells: twice the number in words 117 and 118 (117 is its lower half)
+ * where word 106 has 01b in bits 15:14 and 1 in bit 12, else 512 bytes.
+ */
+#define PIONGSEUT_EDITION_FIRST 1
+#define PIONGSEUT_EDITION_LATER 2
 
 /* What a drive does with an order, by SAT's names: the values of PROTOCOL that are served. */
 #define PIONGSEUT_PROTOCOL_ATA_HARDWARE_RESET 0
@@ -213,6 +224,7 @@ piongseut_inquiry_answer piongseut_inquiry(const uint8_t *command, size_t comman
 /* An order for the drive. There is no padding in it: two orders are equal if memcmp says so. */
 typedef struct {
     uint32_t length;             /* of the data, in bytes */
+    uint32_t auxiliary;          /* bytes 28 to 31 of the 32-byte command, high byte first; 0 of any other */
     uint16_t features;           /* registers: upper byte << 8 | lower byte */
     uint16_t count;
     uint16_t lba_low;
@@ -227,7 +239,7 @@ typedef struct {
     uint8_t extend;              /* 0 or 1 */
     uint8_t direction;           /* PIONGSEUT_DIRECTION_... */
 } piongseut_order;
-PIONGSEUT_HAS_SIZE(piongseut_order, 24)
+PIONGSEUT_HAS_SIZE(piongseut_order, 28)
 
 /*
  * States of a record: it holds nothing; an order, which may be a reset; or an order with a reset over it, which was taken while the
@@ -247,14 +259,14 @@ typedef struct {
     piongseut_order order; /* what completion ends: the order, or the reset over it */
     piongseut_order older; /* the order under the reset; all zero where an order was taken with nothing pending */
 } piongseut_record;
-PIONGSEUT_HAS_SIZE(piongseut_record, 52)
+PIONGSEUT_HAS_SIZE(piongseut_record, 60)
 
 typedef struct {
     uint8_t number; /* refusal number, 0 if none */
     uint8_t status; /* NONE for an order that was taken: its status comes with its completion */
     piongseut_order order; /* the order to carry out; all zero where none was taken */
 } piongseut_submit_answer;
-PIONGSEUT_HAS_SIZE(piongseut_submit_answer, 28)
+PIONGSEUT_HAS_SIZE(piongseut_submit_answer, 32)
 
 typedef struct {
     uint8_t number; /* refusal number, 0 if none */
@@ -268,15 +280,19 @@ PIONGSEUT_HAS_SIZE(piongseut_complete_answer, 4)
 piongseut_record piongseut_record_empty(void);
 
 /*
- * Submits an ATA PASS-THROUGH command (A1h with 12 bytes, 85h with 16).
+ * Submits an ATA PASS-THROUGH command (A1h with 12 bytes, 85h with 16, and in the later edition 7Fh with 32).
  *
  * Lent to read: the command bytes; the drive's registers as they are now, 11 bytes (PIONGSEUT_REGISTER_... names their places),
- * which PROTOCOL 15 reports. `declared` is the host's own length of the data, in bytes, and `form` that of the sense data
- * (PIONGSEUT_SENSE_...); the record does not hold it. Lent to write: the record, and sense room of at least 22 bytes.
+ * which PROTOCOL 15 reports; in the later edition the drive's IDENTIFY block, 512 bytes, or 0 where it gave none. In the first edition
+ * the block is not looked at, of whatever size it is. `declared` is the host's own length of the data, in bytes, `edition` the one by
+ * which the command is read (PIONGSEUT_EDITION_...), and `form` that of the sense data (PIONGSEUT_SENSE_...); the record holds neither.
+ * Lent to write: the record, and sense room of at least 22 bytes.
  * Back: the order to carry out, which the record now holds; or for PROTOCOL 15 number 0, CHECK CONDITION with sense data that tell the
  * registers, no order, and the record as it was.
  * While an order is pending a reset (PROTOCOL 0 or 1) is taken over it, unless that is a reset itself or has one over it; nothing else is.
- * Refusals: 1 (registers not of 11 bytes, sense room below 22), 2, 3, 4, 9 to 14. A refusal leaves the record as it was.
+ * Refusals: 1 (registers not of 11 bytes, sense room below 22), 2, 3, 4, 9 to 14; in the later edition also 1 for a block that is neither
+ * 512 nor 0 bytes, 18, 20, and 6 where logical sectors are to be counted and there is no block. 14 compares the length as it is, of
+ * however many bits. A refusal leaves the record as it was.
  *
  * On packet (MMC) drives the opcode A1h is BLANK. This function is lent no signature and takes A1h for ATA PASS-THROUGH (12):
  * whoever calls it has to send a packet drive's A1h to the drive instead.
@@ -284,7 +300,9 @@ piongseut_record piongseut_record_empty(void);
 piongseut_submit_answer piongseut_submit(piongseut_record *record,
                                          const uint8_t *command, size_t command_size,
                                          const uint8_t *registers, size_t registers_size,
+                                         const uint8_t *block, size_t block_size,
                                          uint32_t declared,
+                                         uint8_t edition,
                                          uint8_t form,
                                          uint8_t *sense, size_t sense_size);
 
