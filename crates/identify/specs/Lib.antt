@@ -2,4 +2,5 @@
 pub mod Block
 pub mod Bytes
 pub mod Drive
+pub mod Sector
 pub mod Words

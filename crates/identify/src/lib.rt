@@ -1,13 +1,15 @@
-// Identify: what the board reads in a drive's IDENTIFY block. The rules stand in specs/: Block (words and fields) and Drive
-// (carries a name, the same drive).
+// Identify: what the board reads in a drive's IDENTIFY block. The rules stand in specs/: Block (words and fields), Drive (carries a
+// name, the same drive) and Sector (the size of a logical sector).
 ghost use mathlib.Core.Path.{_≡_};
 ghost use mathlib.Core.Bool.{_&&_};
 ghost use mathlib.Core.List.{List, map};
+ghost use Prim.Native.Nat.{_<_, _^_};
 ghost use lib.ListN.{length};
 ghost use Rattle.texts.specs.Text.{spaced};
 ghost use Rattle.texts.specs.Helpers.{shown};
 ghost use Rattle.identify.specs.Block.{word as Block·word, serial as Block·serial, firmware as Block·firmware, model as Block·model, name as Block·name};
 ghost use Rattle.identify.specs.Drive.{someBit, saysNamed, carriesName, equal, sameDrive};
+ghost use Rattle.identify.specs.Sector.{tellsSize, sectorSize};
 
 fn wide(byte: u8) -> u16
     ensures { λ r. ⌜ r ≡ byte ⌝ }
@@ -144,4 +146,24 @@ pub fn same_drive(a: &[u8], b: &[u8]) -> bool
         return false;
     }
     same_texts(a, b)
+}
+
+// Whether word 106 says that words 117 and 118 tell the size of a logical sector.
+fn tells_size(w: u16) -> bool
+    ensures { λ r. ⌜ r ≡ tellsSize w ⌝ }
+{
+    (w / 16384 % 4 == 1) & (w / 4096 % 2 == 1)
+}
+
+// The bytes of a logical sector, which 34 bits hold.
+pub fn sector_size(block: &[u8]) -> u64
+    ensures size { λ r. ⌜ r ≡ sectorSize (now (block .entry)) ⌝ }
+    ensures width { λ r. ⌜ r < 2 ^ 34 ⌝ }
+{
+    if tells_size(word(block, 106)) {
+        let low = word(block, 117) as u64;
+        let high = word(block, 118) as u64;
+        return 2 * (low + 65536 * high);
+    }
+    512
 }
