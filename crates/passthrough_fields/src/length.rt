@@ -1,40 +1,75 @@
-// The length rule. A count of blocks and a count of bytes are kept apart until the one multiplication.
+// The length rule. A count of blocks and a count of bytes are kept apart until the one multiplication; a block's size is a count of
+// bytes, too.
+use crate::sent::Sent;
 ghost use mathlib.Core.Path.{_≡_};
 ghost use Prim.Native.Nat.{_<_, _*_, _^_};
-ghost use Rattle.passthrough_fields.specs.Helpers.{Whole};
-ghost use Rattle.passthrough_fields.specs.Length.{bytesIn, blockSize, lengthOf};
+ghost use Rattle.passthrough_fields.specs.Helpers.{Whole, sentOf};
+ghost use Rattle.passthrough_fields.specs.Length.{bytesIn, blockSize, inSectors, lacking as Length·lacking, lengthOf};
 
-// A count of 512-byte blocks.
-pub struct Blocks(pub u32);
+// A count of blocks.
+pub struct Blocks(pub u16);
 
 // A count of bytes.
-pub struct Bytes(pub u32);
+pub struct Bytes(pub u64);
 
 impl Blocks {
-    // The bytes of blocks of a size: the one multiplication.
-    pub fn bytes(self, size: u32) -> Bytes
-        requires { ⌜ size * (self .0) < 2 ^ 32 ⌝ }
-        ensures { λ r. ⌜ r .0 ≡ size * (self .0) ⌝ }
+    // The bytes of blocks of a size: the one multiplication, which 64 bits hold.
+    pub fn bytes(self, size: Bytes) -> Bytes
+        requires { ⌜ size .0 < 2 ^ 34 ⌝ }
+        ensures { λ r. ⌜ r .0 ≡ (size .0) * (self .0) ⌝ }
     {
-        Bytes(size * self.0)
+        Bytes(size.0 * (self.0 as u64))
     }
+}
+
+// The size of the blocks that a command counts.
+pub fn block_size(later: bool, block: &[u8], command: &[u8]) -> Bytes
+    requires { ⌜ Whole (now command) ⌝ }
+    ensures size { λ r. ⌜ r .0 ≡ blockSize later (now (block .entry)) (now (command .entry)) ⌝ }
+    ensures width { λ r. ⌜ r .0 < 2 ^ 34 ⌝ }
+{
+    if later & crate::t_type(command) {
+        return Bytes(identify::sector_size(block));
+    }
+    Bytes(512)
+}
+
+// Whether a command counts logical sectors, where T_TYPE is looked at.
+fn in_sectors(command: &[u8]) -> bool
+    requires { ⌜ Whole (now command) ⌝ }
+    ensures { λ r. ⌜ r ≡ inSectors (now (command .entry)) ⌝ }
+{
+    let t = crate::t_length(command);
+    crate::t_type(command) & crate::byte_block(command) & ((t == 1) | (t == 2))
+}
+
+// Whether their size is needed, and there is no block that tells it.
+pub fn lacking(later: bool, block: &[u8], command: &[u8]) -> bool
+    requires { ⌜ Whole (now command) ⌝ }
+    ensures { λ r. ⌜ r ≡ Length·lacking later (now (block .entry)) (now (command .entry)) ⌝ }
+{
+    if later & (block.len() == 0) {
+        return in_sectors(command);
+    }
+    false
 }
 
 // A field's number, as BYTE_BLOCK counts it.
-fn counted(blocks: bool, number: u16) -> Bytes
-    ensures { λ r. ⌜ r .0 ≡ bytesIn blocks blockSize number ⌝ }
+fn counted(blocks: bool, size: Bytes, number: u16) -> Bytes
+    requires { ⌜ size .0 < 2 ^ 34 ⌝ }
+    ensures { λ r. ⌜ r .0 ≡ bytesIn blocks (size .0) number ⌝ }
 {
     if blocks {
-        let count = Blocks(number as u32);
-        return count.bytes(512);
+        let count = Blocks(number);
+        return count.bytes(size);
     }
-    Bytes(number as u32)
+    Bytes(number as u64)
 }
 
-// The length in bytes that a command asks for.
-pub fn in_bytes(command: &[u8], declared: u32) -> Bytes
-    requires { ⌜ Whole (now command) ⌝ }
-    ensures { λ r. ⌜ r .0 ≡ lengthOf (now (command .entry)) declared ⌝ }
+// The length in bytes that a command asks for, in blocks of a size, from what it sends.
+pub fn in_bytes(size: Bytes, command: &[u8], sent: Sent, declared: u32) -> Bytes
+    requires { ⌜ Whole (now command) × (size .0 < 2 ^ 34) × (sent ≡ sentOf (now command)) ⌝ }
+    ensures { λ r. ⌜ r .0 ≡ lengthOf (size .0) (now (command .entry)) declared ⌝ }
 {
     let t = crate::t_length(command);
     if t == 0 {
@@ -42,10 +77,10 @@ pub fn in_bytes(command: &[u8], declared: u32) -> Bytes
     }
     let blocks = crate::byte_block(command);
     if t == 1 {
-        return counted(blocks, crate::register(command, 0));
+        return counted(blocks, size, sent.features);
     }
     if t == 2 {
-        return counted(blocks, crate::register(command, 1));
+        return counted(blocks, size, sent.count);
     }
-    Bytes(declared)
+    Bytes(declared as u64)
 }

@@ -1,13 +1,10 @@
--- `counted`: a count of 16 bits times 512 fits 32 bits.
-use Prim.Native.Nat.{_^_}
-use native.Mathlib.Omega.{arith}
-use Rattle.passthrough_fields.proofs.Laws.{product}
+-- `counted`: by what is counted.
 use borrow.Author.Needs.{needs}
 use Rattle.passthrough_fields.proofs.length.counted.Statement.{statement}
 use Rattle.passthrough_fields.proofs.length.counted.Tie as tie
 
 bytes-requires : tie.Need-bytes-requires
-bytes-requires c κs = product 16 512 (2 ^ 32) (omega arith) (omega arith) (omega arith)
+bytes-requires c κs = search needs
 
 returns : tie.Need-returns
 returns c = cc

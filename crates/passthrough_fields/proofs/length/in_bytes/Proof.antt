@@ -1,6 +1,8 @@
 -- `in_bytes`: by T_LENGTH.
+use mathlib.Core.Path.{ap}
+use Rattle.passthrough_fields.specs.declared.sent.Sent.{Sent}
 use Rattle.passthrough_fields.specs.Length.{lengthOf}
-use Rattle.passthrough_fields.proofs.Laws.{by-number}
+use Rattle.passthrough_fields.proofs.Laws.{found, passed, counts, by-number}
 use borrow.Author.Needs.{needs}
 use Rattle.passthrough_fields.proofs.length.in_bytes.Statement.{statement}
 use Rattle.passthrough_fields.proofs.length.in_bytes.Tie as tie
@@ -15,25 +17,23 @@ returns c = search by-number depth 8
 byte-block-requires : tie.Need-byte-block-requires
 byte-block-requires c κs = search needs
 
-register-requires : tie.Need-register-requires
-register-requires c κs = search needs
-
 counted-requires : tie.Need-counted-requires
 counted-requires c κs = search needs
 
 returns-2 : tie.Need-returns-2
 unfolding lengthOf
-returns-2 c = search by-number depth 8
-
-register-requires-2 : tie.Need-register-requires-2
-register-requires-2 c κs = search needs
+returns-2 c =
+    let t = c .before .before .before .before .t-length .ensures in
+    passed 0 _ _ _ t (c .before .before .before .if1 .left) (found 1 _ _ _ t (c .before .if2 .taken) (counts _ _ _ _ (c .before .before .byte-block .ensures) (ap (λ (s : Sent). s .features) (c .before .before .before .before .before .before .pre .2)) (c .counted .ensures)))
 
 counted-requires-2 : tie.Need-counted-requires-2
 counted-requires-2 c κs = search needs
 
 returns-3 : tie.Need-returns-3
 unfolding lengthOf
-returns-3 c = search by-number depth 8
+returns-3 c =
+    let t = c .before .before .before .before .before .t-length .ensures in
+    passed 0 _ _ _ t (c .before .before .before .before .if1 .left) (passed 1 _ _ _ t (c .before .before .if2 .left) (found 2 _ _ _ t (c .before .if3 .taken) (counts _ _ _ _ (c .before .before .before .byte-block .ensures) (ap (λ (s : Sent). s .count) (c .before .before .before .before .before .before .before .pre .2)) (c .counted2 .ensures))))
 
 returns-4 : tie.Need-returns-4
 unfolding lengthOf
@@ -46,10 +46,8 @@ in-bytes-spec =
     t-length-requires
     returns
     byte-block-requires
-    register-requires
     counted-requires
     returns-2
-    register-requires-2
     counted-requires-2
     returns-3
     returns-4)
