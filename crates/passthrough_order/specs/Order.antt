@@ -5,8 +5,7 @@ use Prim.Native.Nat.{ℕ, _+_, _-_, _^_}
 use lib.Dec.{eqb}
 use Rattle.rules.specs.Bits.{flag}
 use Rattle.passthrough_order.specs.declared.Order.{Order}
-use Rattle.passthrough_fields.specs.Fields.{protocol, multipleCount, offLine, ckCond, extend, tDir, register, device, ataCommand}
-use Rattle.passthrough_fields.specs.Length.{lengthOf}
+use Rattle.passthrough_fields.specs.Fields.{protocol, multipleCount, offLine, ckCond, extend, tDir, register, device, ataCommand, auxiliary}
 
 -- Protocols by number: without data, from the drive, to the drive, and either way.
 abbrev pub withoutData : ℕ → Bool
@@ -38,6 +37,7 @@ abbrev pub noOrder : Order
 noOrder =
     record {
       length = 0;
+      auxiliary = 0;
       features = 0;
       count = 0;
       «lba_low» = 0;
@@ -58,6 +58,7 @@ abbrev pub resetOrder : List ℕ → Order
 resetOrder c =
     record {
       length = 0;
+      auxiliary = 0;
       features = 0;
       count = 0;
       «lba_low» = 0;
@@ -73,11 +74,12 @@ resetOrder c =
       direction = 0;
     }
 
--- Of any other command every field is read.
+-- Of any other command every field is read; the length of its data is counted before.
 abbrev pub commandOrder : List ℕ → ℕ → Order
-commandOrder c declared =
+commandOrder c bytes =
     record {
-      length = lengthOf c declared;
+      length = bytes;
+      auxiliary = auxiliary c;
       features = register 0 c;
       count = register 1 c;
       «lba_low» = register 2 c;
@@ -94,4 +96,4 @@ commandOrder c declared =
     }
 
 unfoldable pub orderOf : List ℕ → ℕ → Order
-orderOf c declared = cond (reset (protocol c)) (resetOrder c) (commandOrder c declared)
+orderOf c bytes = cond (reset (protocol c)) (resetOrder c) (commandOrder c bytes)

@@ -9,6 +9,7 @@ ghost use Rattle.passthrough_order.specs.Order.{noOrder};
 #[repr(C)]
 pub struct Order {
     pub length: u32,
+    pub auxiliary: u32,
     pub features: u16,
     pub count: u16,
     pub lba_low: u16,
@@ -31,6 +32,7 @@ pub fn no_order() -> Order
 {
     Order {
         length: 0,
+        auxiliary: 0,
         features: 0,
         count: 0,
         lba_low: 0,

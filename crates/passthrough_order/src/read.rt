@@ -1,9 +1,9 @@
 // Reading a command into an order.
 use crate::Order;
-use passthrough_fields::length;
+use passthrough_fields::sent::Sent;
 ghost use mathlib.Core.Path.{_≡_};
 ghost use Prim.Native.Nat.{_<_, _^_};
-ghost use Rattle.passthrough_fields.specs.Helpers.{Whole};
+ghost use Rattle.passthrough_fields.specs.Helpers.{Whole, sentOf};
 ghost use Rattle.passthrough_order.specs.Order.{withoutData, fromDrive, toDrive, withData, reset as Order·reset, directionOf, quietSeconds, resetOrder, commandOrder, orderOf};
 
 // Protocols by number: without data, from the drive, to the drive, and all that have data.
@@ -69,6 +69,7 @@ fn reset_order(command: &[u8]) -> Order
 {
     Order {
         length: 0,
+        auxiliary: 0,
         features: 0,
         count: 0,
         lba_low: 0,
@@ -85,25 +86,25 @@ fn reset_order(command: &[u8]) -> Order
     }
 }
 
-// The order of any other command.
-fn command_order(command: &[u8], declared: u32) -> Order
-    requires { ⌜ Whole (now command) ⌝ }
-    ensures { λ r. ⌜ r ≡ commandOrder (now (command .entry)) declared ⌝ }
+// The order of any other command, with what it sends and the length of its data.
+fn command_order(command: &[u8], sent: Sent, length: u32) -> Order
+    requires { ⌜ Whole (now command) × (sent ≡ sentOf (now command)) ⌝ }
+    ensures { λ r. ⌜ r ≡ commandOrder (now (command .entry)) length ⌝ }
 {
     let protocol = passthrough_fields::protocol(command);
     let from = passthrough_fields::t_dir(command);
-    let opcode = passthrough_fields::ata_command(command);
-    let bytes = length::in_bytes(command, declared);
+    let opcode = sent.command;
     Order {
-        length: bytes.0,
-        features: passthrough_fields::register(command, 0),
-        count: passthrough_fields::register(command, 1),
-        lba_low: passthrough_fields::register(command, 2),
-        lba_mid: passthrough_fields::register(command, 3),
-        lba_high: passthrough_fields::register(command, 4),
+        length,
+        auxiliary: sent.auxiliary,
+        features: sent.features,
+        count: sent.count,
+        lba_low: sent.lba_low,
+        lba_mid: sent.lba_mid,
+        lba_high: sent.lba_high,
         quiet_seconds: quiet_seconds(passthrough_fields::off_line(command)),
         sectors_per_block: power(passthrough_fields::multiple_count(command)),
-        device: passthrough_fields::device(command),
+        device: sent.device,
         command: opcode,
         protocol,
         ck_cond: rules::flag(passthrough_fields::ck_cond(command)),
@@ -112,13 +113,13 @@ fn command_order(command: &[u8], declared: u32) -> Order
     }
 }
 
-// The order that a command makes.
-pub fn order(command: &[u8], declared: u32) -> Order
-    requires { ⌜ Whole (now command) ⌝ }
-    ensures { λ r. ⌜ r ≡ orderOf (now (command .entry)) declared ⌝ }
+// The order that a command makes, with what it sends and the length of its data.
+pub fn order(command: &[u8], sent: Sent, length: u32) -> Order
+    requires { ⌜ Whole (now command) × (sent ≡ sentOf (now command)) ⌝ }
+    ensures { λ r. ⌜ r ≡ orderOf (now (command .entry)) length ⌝ }
 {
     if reset(passthrough_fields::protocol(command)) {
         return reset_order(command);
     }
-    command_order(command, declared)
+    command_order(command, sent, length)
 }

@@ -9,27 +9,6 @@ protocol-requires c κs = search needs
 t-dir-requires : tie.Need-t-dir-requires
 t-dir-requires c κs = search needs
 
-ata-command-requires : tie.Need-ata-command-requires
-ata-command-requires c κs = search needs
-
-in-bytes-requires : tie.Need-in-bytes-requires
-in-bytes-requires c κs = search needs
-
-register-requires : tie.Need-register-requires
-register-requires c κs = search needs
-
-register-requires-2 : tie.Need-register-requires-2
-register-requires-2 c κs = search needs
-
-register-requires-3 : tie.Need-register-requires-3
-register-requires-3 c κs = search needs
-
-register-requires-4 : tie.Need-register-requires-4
-register-requires-4 c κs = search needs
-
-register-requires-5 : tie.Need-register-requires-5
-register-requires-5 c κs = search needs
-
 off-line-requires : tie.Need-off-line-requires
 off-line-requires c κs = search needs
 
@@ -41,9 +20,6 @@ multiple-count-requires c κs = search needs
 
 power-requires : tie.Need-power-requires
 power-requires c κs = search needs
-
-device-requires : tie.Need-device-requires
-device-requires c κs = search needs
 
 ck-cond-requires : tie.Need-ck-cond-requires
 ck-cond-requires c κs = search needs
@@ -61,7 +37,7 @@ direction-requires : tie.Need-direction-requires
 direction-requires c κs = search needs
 
 returns : tie.Need-returns
-returns c = cc
+returns c = rw (c .before .before .before .before .before .before .before .before .before .before .before .before .pre .1, c .direction .ensures, c .before .flag2 .ensures, c .before .before .extend .ensures, c .before .before .before .flag .ensures, c .before .before .before .before .ck-cond .ensures, c .before .before .before .before .before .power .ensures, c .before .before .before .before .before .before .multiple-count .ensures, c .before .before .before .before .before .before .before .quiet-seconds .ensures, c .before .before .before .before .before .before .before .before .off-line .ensures, c .before .before .before .before .before .before .before .before .before .t-dir .ensures, c .before .before .before .before .before .before .before .before .before .before .protocol .ensures)
 
 pub command-order-spec : {M : Type 1} → statement M
 command-order-spec =
@@ -69,18 +45,10 @@ command-order-spec =
     (tie.spec
     protocol-requires
     t-dir-requires
-    ata-command-requires
-    in-bytes-requires
-    register-requires
-    register-requires-2
-    register-requires-3
-    register-requires-4
-    register-requires-5
     off-line-requires
     quiet-seconds-requires
     multiple-count-requires
     power-requires
-    device-requires
     ck-cond-requires
     flag-requires
     extend-requires
