@@ -30,7 +30,7 @@ pub record Row : Type 0 where
 abbrev pub row : ℕ → ℕ → ℕ → ℕ → Row
 row status key asc ascq = record { status = status; key = key; asc = asc; ascq = ascq }
 
--- A row for each number from 0 to 19. Number 0 is no refusal, and answers nothing here.
+-- A row for each number from 0 to 20. Number 0 is no refusal, and answers nothing here.
 abbrev pub table : List Row
 table =
     row noStatus 0x00 0x00 0x00
@@ -71,6 +71,8 @@ table =
     -- 18: a damaged block
     ∷ row noStatus 0x00 0x00 0x00
     -- 19: page 83h with a relative target port that is not 1 or 2
+    ∷ row checkCondition 0x05 0x24 0x00
+    -- 20: another command with the opcode of the 32-byte form
     ∷ row checkCondition 0x05 0x24 0x00
     ∷ []
 

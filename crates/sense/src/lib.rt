@@ -29,7 +29,7 @@ pub const FIXED: u8 = 1;
 pub const DESCRIPTOR: u8 = 2;
 
 // Key, ASC and ASCQ of each refusal, by its number; key 0 where a refusal has none.
-const TABLE: [[u8; 3]; 20] = [
+const TABLE: [[u8; 3]; 21] = [
     [0x00, 0x00, 0x00],
     [0x00, 0x00, 0x00],
     [0x05, 0x24, 0x00],
@@ -49,6 +49,7 @@ const TABLE: [[u8; 3]; 20] = [
     [0x00, 0x00, 0x00],
     [0x00, 0x00, 0x00],
     [0x00, 0x00, 0x00],
+    [0x05, 0x24, 0x00],
     [0x05, 0x24, 0x00],
 ];
 
@@ -106,6 +107,7 @@ fn code(number: u8) -> [u8; 3]
         17 => rows[17],
         18 => rows[18],
         19 => rows[19],
+        20 => rows[20],
         _ => rows[0],
     }
 }
