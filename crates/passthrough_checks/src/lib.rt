@@ -1,16 +1,11 @@
 // Pass-through checks: one function each, and `fault` runs them in the table's order. The rules stand in specs/Checks.
 use passthrough_order::read;
 ghost use mathlib.Core.Path.{_≡_};
-ghost use mathlib.Core.Bool.{not, _&&_};
-ghost use mathlib.Core.List.{[], _∷_};
 ghost use Prim.Native.Nat.{_<_};
-ghost use lib.Dec.{eqb, ltb};
 ghost use lib.ListN.{length};
-ghost use Rattle.passthrough_fields.specs.Fields.{size, protocol, tLength, tDir};
-ghost use Rattle.passthrough_fields.specs.Helpers.{Whole};
-ghost use Rattle.rules.specs.First.{_when_, first};
-ghost use Rattle.passthrough_checks.specs.Checks.{wrongSize, wrongOpcode, wrongProtocol, waits as Checks·waits, wrongLength, wrongDirection};
-ghost use Rattle.passthrough_checks.specs.Helpers.{fieldChecks, lengthChecks, earlyRefusal};
+ghost use Rattle.rules.specs.First.{first};
+ghost use Rattle.passthrough_checks.specs.Checks.{wrongSize, wrongProtocol, waits as Checks·waits, wrongLength, wrongDirection};
+ghost use Rattle.passthrough_checks.specs.Helpers.{blockChecks, sizedChecks, longestChecks, formChecks, fieldChecks, lengthChecks, earlyRefusal};
 
 // 1: a lent piece has not its size.
 pub fn wrong_size(registers: usize, sense: usize) -> bool
@@ -19,23 +14,68 @@ pub fn wrong_size(registers: usize, sense: usize) -> bool
     (registers != 11) | (sense < 22)
 }
 
-// 3: the opcode is not one that is served.
-fn wrong_opcode(command: &[u8]) -> bool
-    requires { ⌜ 0 < length (now command) ⌝ }
-    ensures { λ r. ⌜ r ≡ wrongOpcode (now (command .entry)) ⌝ }
+// 1 and 18, of the block that the later edition is lent; the first does not look at it.
+fn block_fault(later: bool, block: &[u8]) -> u8
+    ensures { λ r. ⌜ r ≡ first (blockChecks later (now (block .entry))) ⌝ }
 {
-    !((command[0] == 0xA1) | (command[0] == 0x85))
+    if !later {
+        return 0;
+    }
+    if !((block.len() == 512) | (block.len() == 0)) {
+        return 1;
+    }
+    if checksum::damaged(block) {
+        return 18;
+    }
+    0
 }
 
-// 2: fewer bytes than the command's size.
-fn short(command: &[u8]) -> bool
-    requires { ⌜ 0 < length (now command) ⌝ }
-    ensures { λ r. ⌜ r ≡ ltb (length (now (command .entry))) (size (now (command .entry))) ⌝ }
+// 2 and 4: fewer bytes than the form's size, or NACA in its control byte.
+fn sized_fault(command: &[u8], size: usize, control: usize) -> u8
+    requires { ⌜ control < size ⌝ }
+    ensures { λ r. ⌜ r ≡ first (sizedChecks (now (command .entry)) size control) ⌝ }
 {
-    if passthrough_fields::long(command) {
-        return command.len() < 16;
+    if command.len() < size {
+        return 2;
     }
-    command.len() < 12
+    if rules::bit(command[control], 2) {
+        return 4;
+    }
+    0
+}
+
+// 3, 2, 4 and 20 of the 32-byte form, which is served in the later edition, and shares its opcode with other commands.
+fn longest_fault(later: bool, command: &[u8]) -> u8
+    ensures { λ r. ⌜ r ≡ first (longestChecks later (now (command .entry))) ⌝ }
+{
+    if !later {
+        return 3;
+    }
+    let of_size = sized_fault(command, 32, 1);
+    if of_size != 0 {
+        return of_size;
+    }
+    if !passthrough_fields::service_action(command) {
+        return 20;
+    }
+    0
+}
+
+// 3, 2, 4 and 20, by the form.
+fn form_fault(later: bool, command: &[u8]) -> u8
+    requires { ⌜ 0 < length (now command) ⌝ }
+    ensures { λ r. ⌜ r ≡ first (formChecks later (now (command .entry))) ⌝ }
+{
+    if passthrough_fields::longest(command) {
+        return longest_fault(later, command);
+    }
+    if passthrough_fields::long(command) {
+        return sized_fault(command, 16, 15);
+    }
+    if command[0] == 0xA1 {
+        return sized_fault(command, 12, 11);
+    }
+    3
 }
 
 // 9: a protocol that is not served.
@@ -94,17 +134,20 @@ fn field_fault(pending: bool, reset_pending: bool, protocol: u8, t_length: u8, f
     0
 }
 
-// 13 and 14: a data protocol with length 0, or with one above the declared length.
-pub fn length_fault(protocol: u8, bytes: u32, declared: u32) -> u8
-    ensures { λ r. ⌜ r ≡ first (lengthChecks protocol bytes declared) ⌝ }
+// 6, 13 and 14: a data protocol, whose length lacks the size of a sector, or is 0, or above the declared length.
+pub fn length_fault(protocol: u8, lacking: bool, bytes: u64, declared: u32) -> u8
+    ensures { λ r. ⌜ r ≡ first (lengthChecks protocol lacking bytes declared) ⌝ }
 {
     if !read::with_data(protocol) {
         return 0;
     }
+    if lacking {
+        return 6;
+    }
     if bytes == 0 {
         return 13;
     }
-    if declared < bytes {
+    if (declared as u64) < bytes {
         return 14;
     }
     0
@@ -114,26 +157,27 @@ pub fn length_fault(protocol: u8, bytes: u32, declared: u32) -> u8
 pub fn fault(
     pending: bool,
     reset_pending: bool,
+    later: bool,
     command: &[u8],
     registers: usize,
+    block: &[u8],
     sense: usize,
 ) -> u8
-    ensures { λ r. ⌜ r ≡ earlyRefusal pending «reset_pending» (now (command .entry)) registers sense ⌝ }
+    ensures { λ r. ⌜ r ≡ earlyRefusal pending «reset_pending» later (now (command .entry)) registers (now (block .entry)) sense ⌝ }
 {
     if wrong_size(registers, sense) {
         return 1;
     }
+    let of_block = block_fault(later, block);
+    if of_block != 0 {
+        return of_block;
+    }
     if command.len() == 0 {
         return 2;
     }
-    if wrong_opcode(command) {
-        return 3;
-    }
-    if short(command) {
-        return 2;
-    }
-    if passthrough_fields::naca(command) {
-        return 4;
+    let of_form = form_fault(later, command);
+    if of_form != 0 {
+        return of_form;
     }
     let protocol = passthrough_fields::protocol(command);
     let t_length = passthrough_fields::t_length(command);
