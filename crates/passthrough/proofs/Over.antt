@@ -14,14 +14,14 @@ use Rattle.passthrough.specs.Record.{nothingPending, resetPending}
 use Rattle.passthrough.specs.Submit as Submit
 
 -- The order of a reset is made of its protocol and its quiet seconds alone.
-pub reset-whole : (command : List ℕ) (declared : ℕ) → reset (protocol command) ≡ true → orderOf command declared ≡ resetOrder command
+pub reset-whole : (command : List ℕ) (bytes : ℕ) → reset (protocol command) ≡ true → orderOf command bytes ≡ resetOrder command
 unfolding orderOf
-reset-whole command declared r = rw r
+reset-whole command bytes r = rw r
 
-module _ (p : Pending) (command registers : List ℕ) (declared sense : ℕ) (e : Submit.refusalOf p command registers declared sense ≡ 0) where
+module _ (p : Pending) (command registers block : List ℕ) (declared edition sense : ℕ) (e : Submit.refusalOf p command registers block declared edition sense ≡ 0) where
   waits-not : Check.waits (not (nothingPending p)) (resetPending p) (protocol command) ≡ false
   unfolding Check.refusalOf
-  waits-not = silent (Check.checksOf (not (nothingPending p)) (resetPending p) command (length registers) declared sense) refl e .1 .1 .1 .1 .1 .1 .0
+  waits-not = silent (Check.checksOf (not (nothingPending p)) (resetPending p) (Submit.isLater edition) command (length registers) block declared sense) refl e .1 .1 .1 .1 .1 .1 .1 .1 .1 .0
 
   pub taken-over : eqb (protocol command) 15 ≡ false → nothingPending p ≡ false → (reset (protocol command) ≡ true) × (resetPending p ≡ false)
   taken-over f n = by (reset (protocol command)) refl waits-not

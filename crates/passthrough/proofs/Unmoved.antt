@@ -9,7 +9,7 @@ use lib.ListN.{length}
 use borrow.Author.Tests.{eqb-true}
 use Rattle.rules.proofs.First.{silent, neither}
 use Rattle.passthrough_fields.specs.Fields.{protocol}
-use Rattle.passthrough_order.specs.Order.{reset, orderOf}
+use Rattle.passthrough_order.specs.Order.{reset}
 use Rattle.passthrough.specs.declared.Pending.{Pending}
 use Rattle.passthrough.specs.declared.Submitted.{Submitted}
 use Rattle.passthrough.specs.declared.Completed.{Completed}
@@ -26,25 +26,25 @@ settled false z = z
 pub same-number : (m n : ℕ) → Holds (not (not (eqb m n))) → m ≡ n
 same-number m n z = eqb→eq m n (settled (eqb m n) z)
 
-module _ (p : Pending) (command registers : List ℕ) (declared form : ℕ) (sense : List ℕ) where
+module _ (p : Pending) (command registers block : List ℕ) (declared edition form : ℕ) (sense : List ℕ) where
   abbrev refusal : ℕ
-  refusal = Submit.refusalOf p command registers declared (length sense)
+  refusal = Submit.refusalOf p command registers block declared edition (length sense)
 
   -- An order that is taken moves the state: from none to one, or to two, where no reset was over the order.
-  moved : (free : Bool) → nothingPending p ≡ free → refusal ≡ 0 → eqb (protocol command) 15 ≡ false → taking p (orderOf command declared) .state ≡ p .state → ⊥
+  moved : (free : Bool) → nothingPending p ≡ free → refusal ≡ 0 → eqb (protocol command) 15 ≡ false → taking p (Submit.made command block declared edition) .state ≡ p .state → ⊥
   moved true n e f h = true≢false (sym n ∙ ap (λ (s : ℕ). eqb s 0) (sym h) ∙ rw n)
   moved false n e f h =
-      let over = taken-over p command registers declared (length sense) e f n .1 in
+      let over = taken-over p command registers block declared edition (length sense) e f n .1 in
       true≢false (ap (λ (s : ℕ). eqb s 2) (rw n at h) ∙ neither (resetOver p) (not (nothingPending p) && reset (p .order .protocol)) over .0)
 
   unmoved-by : (b told : Bool) → eqb refusal 0 ≡ b → eqb (protocol command) 15 ≡ told
-      → let o = cond b (cond told (Submit.reported p registers form sense) (Submit.taken p (orderOf command declared) sense)) (Submit.refused p form refusal sense) in
+      → let o = cond b (cond told (Submit.reported p registers form sense) (Submit.taken p (Submit.made command block declared edition) sense)) (Submit.refused p form refusal sense) in
       o .submitted .next .state ≡ p .state → o .submitted .next ≡ p
   unmoved-by false told e f h = refl
   unmoved-by true true e f h = refl
   unmoved-by true false e f h = absurd (moved (nothingPending p) refl (eqb-true refusal 0 e) f h)
 
-  pub submit-unmoved : {r : Submitted} {s : List ℕ} → Submit.outcome r s ≡ Submit.submit p command registers declared form sense → r .next .state ≡ p .state → r .next ≡ p
+  pub submit-unmoved : {r : Submitted} {s : List ℕ} → Submit.outcome r s ≡ Submit.submit p command registers block declared edition form sense → r .next .state ≡ p .state → r .next ≡ p
   unfolding Submit.submit
   submit-unmoved e h =
       let n = ap (λ (o : Submit.Outcome). o .submitted .next) e in

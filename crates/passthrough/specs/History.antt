@@ -21,12 +21,12 @@ waiting pending = cond (nothingPending pending) [] (cond (resetOver pending) (pe
 
 -- A step: a command is submitted, or what is pending is completed.
 pub data Step : Type 0 where
-  submitting : (command registers : List ℕ) (declared form : ℕ) (sense : List ℕ) → Step
+  submitting : (command registers block : List ℕ) (declared edition form : ℕ) (sense : List ℕ) → Step
   completing : (registers : List ℕ) (form : ℕ) (sense : List ℕ) → Step
 
 -- The record after a step.
 abbrev pub after : Pending → Step → Pending
-after pending (submitting command registers declared form sense) = submit pending command registers declared form sense .submitted .next
+after pending (submitting command registers block declared edition form sense) = submit pending command registers block declared edition form sense .submitted .next
 after pending (completing registers form sense) = complete pending registers form sense .completed .next
 
 -- The order that is taken: the one that is answered to a command which is not refused, and not protocol 15.
@@ -34,7 +34,7 @@ abbrev pub takenOf : ℕ → Taken → List Order
 takenOf p answered = cond (eqb (answered .number) 0 && not (eqb p 15)) (answered .order ∷ []) []
 
 abbrev pub takes : Pending → Step → List Order
-takes pending (submitting command registers declared form sense) = takenOf (protocol command) (submit pending command registers declared form sense .submitted .taken)
+takes pending (submitting command registers block declared edition form sense) = takenOf (protocol command) (submit pending command registers block declared edition form sense .submitted .taken)
 takes pending (completing registers form sense) = []
 
 -- A completion that is not refused settles the order, which ends, and before it the older order where it is reported as lost.
@@ -42,11 +42,11 @@ abbrev pub settledBy : Pending → Ended → List Order
 settledBy pending answered = cond (eqb (answered .number) 0) (cond (eqb (answered .lost) 1) (pending .older ∷ pending .order ∷ []) (pending .order ∷ [])) []
 
 abbrev pub settles : Pending → Step → List Order
-settles pending (submitting command registers declared form sense) = []
+settles pending (submitting command registers block declared edition form sense) = []
 settles pending (completing registers form sense) = settledBy pending (complete pending registers form sense .completed .ended)
 
 abbrev pub ends : Pending → Step → Bool
-ends pending (submitting command registers declared form sense) = false
+ends pending (submitting command registers block declared edition form sense) = false
 ends pending (completing registers form sense) = eqb (complete pending registers form sense .completed .ended .number) 0
 
 -- A book that is kept of the steps: the record, the orders that were taken, those that were settled, and those that were taken since

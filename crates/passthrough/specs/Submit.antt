@@ -1,5 +1,5 @@
 -- Submitting a pass-through command: what comes of it (RULES 9).
-use mathlib.Core.Bool.{cond, not, false}
+use mathlib.Core.Bool.{Bool, cond, not, false}
 use mathlib.Core.List.{List}
 use Prim.Native.Nat.{ℕ}
 use lib.Dec.{eqb}
@@ -9,16 +9,25 @@ use Rattle.sense.specs.Refusal.{rowOf, refusedSense, noStatus, checkCondition}
 use Rattle.sense.specs.Sense.{senseData, registers as told}
 use Rattle.passthrough_order.specs.declared.Order.{Order}
 use Rattle.passthrough_fields.specs.Fields.{protocol}
+use Rattle.passthrough_fields.specs.Length.{blockSize, lengthOf}
 use Rattle.passthrough_order.specs.Order.{noOrder, orderOf}
 use Rattle.passthrough_checks.specs.Checks as Check
 use Rattle.passthrough.specs.declared.Pending.{Pending}
 use Rattle.passthrough.specs.declared.Submitted.{Submitted}
 use Rattle.passthrough.specs.Record.{nothingPending, resetPending, taking}
 
+-- The edition by which a command is read: 2 names the later one, and every other number the first.
+abbrev pub isLater : ℕ → Bool
+isLater edition = eqb edition 2
+
 -- The number of the first check that applies, and 0 where none does.
-abbrev pub refusalOf : Pending → List ℕ → List ℕ → ℕ → ℕ → ℕ
-refusalOf pending command registers declared sense =
-    Check.refusalOf (not (nothingPending pending)) (resetPending pending) command (length registers) declared sense
+abbrev pub refusalOf : Pending → List ℕ → List ℕ → List ℕ → ℕ → ℕ → ℕ → ℕ
+refusalOf pending command registers block declared edition sense =
+    Check.refusalOf (not (nothingPending pending)) (resetPending pending) (isLater edition) command (length registers) block declared sense
+
+-- The order that a command makes, with the length of its data.
+abbrev pub made : List ℕ → List ℕ → ℕ → ℕ → Order
+made command block declared edition = orderOf command (lengthOf (blockSize (isLater edition) block command) command declared)
 
 -- Everything that comes back, and every lent byte that can change.
 pub record Outcome : Type 0 where
@@ -44,8 +53,8 @@ reported pending registers form sense =
 abbrev pub taken : Pending → Order → List ℕ → Outcome
 taken pending order sense = outcome (answer (taking pending order) 0 noStatus order) sense
 
-unfoldable pub submit : Pending → List ℕ → List ℕ → ℕ → ℕ → List ℕ → Outcome
-submit pending command registers declared form sense =
-    cond (eqb (refusalOf pending command registers declared (length sense)) 0)
-    (cond (eqb (protocol command) 15) (reported pending registers form sense) (taken pending (orderOf command declared) sense))
-    (refused pending form (refusalOf pending command registers declared (length sense)) sense)
+unfoldable pub submit : Pending → List ℕ → List ℕ → List ℕ → ℕ → ℕ → ℕ → List ℕ → Outcome
+submit pending command registers block declared edition form sense =
+    cond (eqb (refusalOf pending command registers block declared edition (length sense)) 0)
+    (cond (eqb (protocol command) 15) (reported pending registers form sense) (taken pending (made command block declared edition) sense))
+    (refused pending form (refusalOf pending command registers block declared edition (length sense)) sense)

@@ -4,6 +4,7 @@ mod finish;
 mod held;
 
 use passthrough_fields::length;
+use passthrough_fields::sent;
 use passthrough_order::Order;
 use passthrough_order::read;
 ghost use mathlib.Core.Path.{_≡_};
@@ -11,6 +12,11 @@ ghost use Rattle.passthrough_order.specs.Order.{noOrder};
 ghost use Rattle.passthrough.specs.Record.{empty as Record·empty};
 ghost use Rattle.passthrough.specs.Submit.{outcome as Submit·outcome, answer as Submit·answer, submit as Submit·submit};
 ghost use Rattle.passthrough.specs.Complete.{outcome as Complete·outcome, answer as Complete·answer, complete as Complete·complete};
+
+// The editions by which a command may be read; every number but the later's names the first.
+pub const FIRST: u8 = 1;
+
+pub const LATER: u8 = 2;
 
 // The pending record. State 0 holds nothing, 2 an order with a reset over it, and every other number an order. `order` is what
 // completion ends, `older` the order under a reset. Numbers only, and no gaps between them, so that C code can hold it as it is.
@@ -103,17 +109,22 @@ impl Pending {
         self,
         command: &[u8],
         registers: &[u8],
+        block: &[u8],
         declared: u32,
+        edition: u8,
         form: u8,
         sense: &mut [u8],
     ) -> Submitted
-        ensures { λ r. ⌜ Submit·outcome r (now (sense .exit)) ≡ Submit·submit self (now (command .entry)) (now (registers .entry)) declared form (now (sense .entry)) ⌝ }
+        ensures { λ r. ⌜ Submit·outcome r (now (sense .exit)) ≡ Submit·submit self (now (command .entry)) (now (registers .entry)) (now (block .entry)) declared edition form (now (sense .entry)) ⌝ }
     {
+        let later = edition == LATER;
         let number = passthrough_checks::fault(
             self.state != 0,
             held::reset_pending(self),
+            later,
             command,
             registers.len(),
+            block,
             sense.len(),
         );
         if number != 0 {
@@ -124,12 +135,15 @@ impl Pending {
             sense::report(sense, form, 0x01, 0x00, 0x1D, false, registers);
             return without_order(self, 0, sense::CHECK_CONDITION);
         }
-        let bytes = length::in_bytes(command, declared);
-        let late = passthrough_checks::length_fault(protocol, bytes.0, declared);
+        let lacking = length::lacking(later, block, command);
+        let sent = sent::read(command);
+        let size = length::block_size(later, block, command);
+        let bytes = length::in_bytes(size, command, sent, declared);
+        let late = passthrough_checks::length_fault(protocol, lacking, bytes.0, declared);
         if late != 0 {
             return without_order(self, late, sense::refuse(sense, form, late));
         }
-        let order = read::order(command, declared);
+        let order = read::order(command, sent, bytes.0);
         answer(held::taking(self, order), 0, sense::NONE, order)
     }
 

@@ -1,22 +1,23 @@
 -- Laws of the checks: one by one, in two runs, and what holds of a command that they let pass.
 use mathlib.Core.Path.{_≡_, refl, sym, _∙_}
-use mathlib.Core.Bool.{Bool, true, false, cond, not, _||_}
+use mathlib.Core.Bool.{Bool, true, false, cond, not, _&&_, _||_, true≢false}
 use mathlib.Core.List.{List}
-use Prim.Native.Nat.{ℕ, _≤_}
-use native.Mathlib.Nat.{le-trans}
+use Prim.Native.Nat.{ℕ, _^_, _≤_, _<_}
+use native.Mathlib.Nat.{le-trans, lt-of-le-of-lt}
 use native.Mathlib.Omega.{arith}
 use lib.Dec.{eqb, ltb}
 use lib.ListN.{length, getD}
 use borrow.Author.Tests.{eqb-true, ltb-false, not-false, eq-eqb, ne-eqb}
 use Rattle.sense.specs.Helpers.{Roomy}
 use Rattle.sense.proofs.Sense.{roomy-unless}
+use Rattle.sense.proofs.Table.{all-below, at}
 use Rattle.rules.specs.First.{Check, first}
 use Rattle.rules.proofs.First.{Silent, silent, neither, first-answers, second-answers}
-use Rattle.passthrough_fields.specs.Fields.{long, longest, size, protocol}
+use Rattle.passthrough_fields.specs.Fields.{long, longest, size, protocol, tLength, byteBlock, featuresNumber, countNumber}
 use Rattle.passthrough_fields.specs.Helpers.{Whole}
-use Rattle.passthrough_fields.specs.Length.{blockSize, lacking, lengthOf}
-use Rattle.passthrough_order.specs.Order.{withData}
-use Rattle.passthrough_checks.specs.Checks.{wrongSize, refusalOf}
+use Rattle.passthrough_fields.specs.Length.{blockSize, lacking, bytesIn, lengthOf}
+use Rattle.passthrough_order.specs.Order.{withoutData, withData, reset}
+use Rattle.passthrough_checks.specs.Checks.{wrongSize, wrongProtocol, wrongLength, refusalOf}
 use Rattle.passthrough_checks.specs.Helpers.{formChecks, lengthChecks, commandChecks, earlyRefusal}
 
 -- Checks in order: one that applies answers, and one that does not leaves the answer to those after it.
@@ -72,6 +73,37 @@ module _ (pending resetPending later : Bool) (command : List ℕ) (registers : �
 
   pub taken-whole : Whole command
   taken-whole = whole command (quiet .1 .1 .1 .1 .1 .0)
+
+-- A protocol that is served, and makes an order that is no reset, has data or has none.
+served : (p : ℕ) → p < 16 → wrongProtocol p ≡ false → eqb p 15 ≡ false → reset p ≡ false → (withData p || withoutData p) ≡ true
+unfolding all-below
+served p h w f r =
+    rw (w, f, r) at (at (λ k. wrongProtocol k || eqb k 15 || reset k || (withData k || withoutData k)) 16 refl p h)
+
+-- Without data T_LENGTH is 0, and so is the length.
+none-counted : (p size : ℕ) (command : List ℕ) (declared : ℕ) → withData p ≡ false → withoutData p ≡ true → wrongLength p (tLength command) ≡ false → lengthOf size command declared ≡ 0
+unfolding lengthOf
+none-counted p size command declared d n w = by (eqb (tLength command) 0) (rw (d, n) at w)
+  where
+    by : (b : Bool) → (not b || false) ≡ false → cond b 0 (cond (eqb (tLength command) 1) (bytesIn (byteBlock command) size (featuresNumber command)) (cond (eqb (tLength command) 2) (bytesIn (byteBlock command) size (countNumber command)) declared)) ≡ 0
+    by true e = refl
+    by false e = absurd (true≢false e)
+
+-- An order that is taken has a length that 32 bits hold: what is declared is not less.
+module _ (pending resetPending later : Bool) (command : List ℕ) (registers : ℕ) (block : List ℕ) (declared sense : ℕ) where
+  abbrev length-in : ℕ
+  length-in = lengthOf (blockSize later block command) command declared
+
+  pub length-fits : earlyRefusal pending resetPending later command registers block sense ≡ 0 → first (lengthChecks (protocol command) (lacking later block command) length-in declared) ≡ 0 → eqb (protocol command) 15 ≡ false → declared < 2 ^ 32 → reset (protocol command) ≡ false → length-in < 2 ^ 32
+  unfolding earlyRefusal
+  length-fits e l f d r =
+      let q = silent (commandChecks pending resetPending later command registers block sense) refl e .1 .1 .1 .1 .1 .1 .1 .1 in
+      by (withData (protocol command)) refl (silent (lengthChecks (protocol command) (lacking later block command) length-in declared) refl l .1 .1 .0)
+      (served (protocol command) (omega arith) (q .0) f r) (q .1 .1 .0)
+    where
+      by : (b : Bool) → withData (protocol command) ≡ b → (b && ltb declared length-in) ≡ false → (b || withoutData (protocol command)) ≡ true → wrongLength (protocol command) (tLength command) ≡ false → length-in < 2 ^ 32
+      by true w t n z = lt-of-le-of-lt (ltb-false _ _ t) d
+      by false w t n z = rw (none-counted (protocol command) (blockSize later block command) command declared w n z) (omega arith)
 
 -- A refusal of a command that writes has room for it.
 pub roomy : (pending resetPending later : Bool) (command : List ℕ) (registers : ℕ) (block : List ℕ) (sense : ℕ) {number : ℕ} → number ≡ earlyRefusal pending resetPending later command registers block sense → Roomy number sense

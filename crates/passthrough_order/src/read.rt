@@ -3,6 +3,8 @@ use crate::Order;
 use passthrough_fields::sent::Sent;
 ghost use mathlib.Core.Path.{_≡_};
 ghost use Prim.Native.Nat.{_<_, _^_};
+ghost use mathlib.Core.Bool.{false};
+ghost use Rattle.passthrough_fields.specs.Fields.{protocol};
 ghost use Rattle.passthrough_fields.specs.Helpers.{Whole, sentOf};
 ghost use Rattle.passthrough_order.specs.Order.{withoutData, fromDrive, toDrive, withData, reset as Order·reset, directionOf, quietSeconds, resetOrder, commandOrder, orderOf};
 
@@ -87,15 +89,15 @@ fn reset_order(command: &[u8]) -> Order
 }
 
 // The order of any other command, with what it sends and the length of its data.
-fn command_order(command: &[u8], sent: Sent, length: u32) -> Order
-    requires { ⌜ Whole (now command) × (sent ≡ sentOf (now command)) ⌝ }
+fn command_order(command: &[u8], sent: Sent, length: u64) -> Order
+    requires { ⌜ Whole (now command) × (sent ≡ sentOf (now command)) × (length < 2 ^ 32) ⌝ }
     ensures { λ r. ⌜ r ≡ commandOrder (now (command .entry)) length ⌝ }
 {
     let protocol = passthrough_fields::protocol(command);
     let from = passthrough_fields::t_dir(command);
     let opcode = sent.command;
     Order {
-        length,
+        length: length as u32,
         auxiliary: sent.auxiliary,
         features: sent.features,
         count: sent.count,
@@ -113,9 +115,9 @@ fn command_order(command: &[u8], sent: Sent, length: u32) -> Order
     }
 }
 
-// The order that a command makes, with what it sends and the length of its data.
-pub fn order(command: &[u8], sent: Sent, length: u32) -> Order
-    requires { ⌜ Whole (now command) × (sent ≡ sentOf (now command)) ⌝ }
+// The order that a command makes, with what it sends and the length of its data, which 32 bits hold but for a reset, which has none.
+pub fn order(command: &[u8], sent: Sent, length: u64) -> Order
+    requires { ⌜ Whole (now command) × (sent ≡ sentOf (now command)) × (Order·reset (protocol (now command)) ≡ false → length < 2 ^ 32) ⌝ }
     ensures { λ r. ⌜ r ≡ orderOf (now (command .entry)) length ⌝ }
 {
     if reset(passthrough_fields::protocol(command)) {

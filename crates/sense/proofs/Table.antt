@@ -19,11 +19,11 @@ unfolding rowOf
 row-past n h = List·getD-eq-default table noRow {n = n} h
 
 -- A test that passes at every number below n.
-all-below : (ℕ → Bool) → ℕ → Bool
+unfoldable pub all-below : (ℕ → Bool) → ℕ → Bool
 all-below f zero = true
 all-below f (suc n) = f n && all-below f n
 
-at : (f : ℕ → Bool) (n : ℕ) → all-below f n ≡ true → (k : ℕ) → k < n → f k ≡ true
+pub at : (f : ℕ → Bool) (n : ℕ) → all-below f n ≡ true → (k : ℕ) → k < n → f k ≡ true
 unfolding all-below
 at f zero e k h = absurd (not-suc-le-zero h)
 at f (suc n) e k h =

@@ -1,14 +1,18 @@
 -- `submit`: refused by its number, told (protocol 15), refused for its length, or taken.
 use mathlib.Core.Path.{_≡_, _∙_, sym}
-use mathlib.Core.Bool.{not}
-use Prim.Native.Nat.{ℕ}
+use native.Mathlib.Omega.{arith}
 use lib.ListN.{length}
 use borrow.Author.Tests.{eq-eqb, ne-eqb}
+use Rattle.passthrough_fields.specs.Fields.{protocol}
+use Rattle.passthrough_fields.specs.Length.{blockSize, lacking, lengthOf}
+use Rattle.passthrough.specs.Submit.{isLater, submit}
+use Rattle.passthrough_checks.proofs.Laws.{taken-sized, taken-whole, roomy, refused-early, refused-late, none-for-15, length-fits}
+use mathlib.Core.Bool.{not}
+use Rattle.rules.specs.First.{first}
+use Rattle.passthrough_fields.specs.Helpers.{Whole}
 use Rattle.passthrough_checks.specs.Checks.{refusalOf}
-use Rattle.passthrough_checks.specs.Helpers.{earlyRefusal}
+use Rattle.passthrough_checks.specs.Helpers.{lengthChecks, earlyRefusal}
 use Rattle.passthrough.specs.Record.{nothingPending, resetPending}
-use Rattle.passthrough.specs.Submit.{submit}
-use Rattle.passthrough_checks.proofs.Laws.{taken-sized, taken-whole, roomy, refused-early, refused-late, none-for-15}
 use borrow.Author.Needs.{needs}
 use Rattle.passthrough.proofs.Pending.submit.Statement.{statement}
 use Rattle.passthrough.proofs.Pending.submit.Tie as tie
@@ -20,7 +24,7 @@ fault-requires : tie.Need-fault-requires
 fault-requires c κs = search needs
 
 refuse-requires : tie.Need-refuse-requires
-refuse-requires c κs = roomy _ _ _ _ _ (c .before .before .fault .ensures)
+refuse-requires c κs = roomy _ _ _ _ _ _ _ (c .before .before .fault .ensures)
 
 without-order-requires : tie.Need-without-order-requires
 without-order-requires c κs = search needs
@@ -29,36 +33,35 @@ same-length : tie.Need-same-length
 same-length c = search needs
 
 -- The checks are asked of the record that is lent.
-early-is : (c : tie.After-fault) → let a = c .before .before .before .before .before .before .args in c .fault .result ≡ earlyRefusal (not (nothingPending (a .self))) (resetPending (a .self)) (a .command .now) (length (a .registers .now)) (length (a .sense .now))
+early-is : (c : tie.After-fault) → let a = c .before .before .before .before .before .before .before .args in c .fault .result ≡ earlyRefusal (not (nothingPending (a .self))) (resetPending (a .self)) (isLater (a .edition)) (a .command .now) (length (a .registers .now)) (a .block .now) (length (a .sense .now))
 early-is c = rw (c .before .reset-pending .ensures) at (c .fault .ensures)
 
 returns : tie.Need-returns
 unfolding submit
 returns c =
-    let a = c .before .before .before .before .before .before .before .before .before .before .before .before .args in
+    let a = c .before .before .before .before .before .before .before .before .before .before .before .before .before .args in
     let f = early-is (c .before .before .before .before .before .before) in
     let h = c .before .before .before .before .before .if1 .taken in
-    rw (c .without-order .ensures, c .before .before .before .refuse .ensures .0, c .before .before .before .refuse .ensures .1, refused-early _ _ (a .command .now) (length (a .registers .now)) (a .declared) (length (a .sense .now)) (λ z. h (f ∙ z)), ← f, ne-eqb _ _ h)
+    rw (c .without-order .ensures, c .before .before .before .refuse .ensures .0, c .before .before .before .refuse .ensures .1, refused-early _ _ _ (a .command .now) (length (a .registers .now)) (a .block .now) (a .declared) (length (a .sense .now)) (λ z. h (f ∙ z)), ← f, ne-eqb _ _ h)
 
 -- What is refused of a command that the first checks passed hangs on its length.
-abbrev refusal : tie.Else1 → ℕ
-refusal c =
-    let a = c .before .before .before .before .before .before .before .args in
-    refusalOf (not (nothingPending (a .self))) (resetPending (a .self)) (a .command .now) (length (a .registers .now)) (a .declared) (length (a .sense .now))
-
-none-early : (c : tie.Else1) → let a = c .before .before .before .before .before .before .before .args in earlyRefusal (not (nothingPending (a .self))) (resetPending (a .self)) (a .command .now) (length (a .registers .now)) (length (a .sense .now)) ≡ 0
+none-early : (c : tie.Else1) → let a = c .before .before .before .before .before .before .before .before .args in earlyRefusal (not (nothingPending (a .self))) (resetPending (a .self)) (isLater (a .edition)) (a .command .now) (length (a .registers .now)) (a .block .now) (length (a .sense .now)) ≡ 0
 none-early c = sym (early-is (c .before)) ∙ c .if1 .left
 
-by-length : (c : tie.After-length-fault) → c .length-fault .result ≡ refusal (c .before .before .before .before)
-by-length c =
-    rw (c .before .before .before .protocol .ensures, c .before .in-bytes .ensures) at (c .length-fault .ensures)
-    ∙ sym (refused-late _ _ _ _ _ _ (none-early (c .before .before .before .before)))
+whole-command : (c : tie.Else1) → Whole (c .before .before .before .before .before .before .before .before .args .command .now)
+whole-command c = taken-whole _ _ _ _ _ _ _ (none-early c)
+
+late-is : (c : tie.After-length-fault) → let a = c .before .before .before .before .before .before .before .before .before .before .before .before .before .before .before .args in c .length-fault .result ≡ first (lengthChecks (protocol (a .command .now)) (lacking (isLater (a .edition)) (a .block .now) (a .command .now)) (lengthOf (blockSize (isLater (a .edition)) (a .block .now) (a .command .now)) (a .command .now) (a .declared)) (a .declared))
+late-is c = rw (c .before .before .before .before .before .before .protocol .ensures, c .before .before .before .before .lacking .ensures, c .before .in-bytes .ensures, c .before .before .block-size .ensures .0) at (c .length-fault .ensures)
+
+by-length : (c : tie.After-length-fault) → let a = c .before .before .before .before .before .before .before .before .before .before .before .before .before .before .before .args in c .length-fault .result ≡ refusalOf (not (nothingPending (a .self))) (resetPending (a .self)) (isLater (a .edition)) (a .command .now) (length (a .registers .now)) (a .block .now) (a .declared) (length (a .sense .now))
+by-length c = late-is c ∙ sym (refused-late _ _ _ _ _ _ (c .before .before .before .before .before .before .before .before .before .before .before .before .before .before .before .args .declared) _ (none-early (c .before .before .before .before .before .before .before)))
 
 protocol-requires : tie.Need-protocol-requires
-protocol-requires c κs = taken-whole _ _ _ _ _ (none-early c)
+protocol-requires c κs = whole-command c
 
 report-requires : tie.Need-report-requires
-report-requires c κs = taken-sized _ _ _ _ _ (none-early (c .before .before .before))
+report-requires c κs = taken-sized _ _ _ _ _ _ _ (none-early (c .before .before .before))
 
 without-order-requires-2 : tie.Need-without-order-requires-2
 without-order-requires-2 c κs = search needs
@@ -69,20 +72,28 @@ same-length-2 c = search needs
 returns-2 : tie.Need-returns-2
 unfolding submit
 returns-2 c =
-    let e = c .before .before .before .before .before .before .before in
     let p = c .before .before .before .before .before .before .protocol .ensures in
     let told = c .before .before .before .before .before .if2 .taken in
-    let a = c .before .before .before .before .before .before .before .before .before .before .before .before .before .before .args in
-    rw (c .without-order2 .ensures, c .before .before .before .report .ensures .leaves, refused-late _ _ _ _ (a .declared) _ (none-early e), none-for-15 _ (a .declared) (sym p ∙ told), eq-eqb _ _ (sym p ∙ told))
+    let a = c .before .before .before .before .before .before .before .before .before .before .before .before .before .before .before .args in
+    rw (c .without-order2 .ensures, c .before .before .before .report .ensures .leaves, refused-late _ _ _ _ _ _ (a .declared) _ (none-early (c .before .before .before .before .before .before .before)), none-for-15 _ _ (a .declared) (sym p ∙ told), eq-eqb _ _ (sym p ∙ told))
+
+lacking-requires : tie.Need-lacking-requires
+lacking-requires c κs = whole-command (c .before .before)
+
+read-requires : tie.Need-read-requires
+read-requires c κs = whole-command (c .before .before .before)
+
+block-size-requires : tie.Need-block-size-requires
+block-size-requires c κs = whole-command (c .before .before .before .before)
 
 in-bytes-requires : tie.Need-in-bytes-requires
-in-bytes-requires c κs = protocol-requires (c .before .before) κs
+in-bytes-requires c κs = (whole-command (c .before .before .before .before .before), c .block-size .ensures .1, c .before .read .ensures)
 
 length-fault-requires : tie.Need-length-fault-requires
 length-fault-requires c κs = search needs
 
 refuse-requires-2 : tie.Need-refuse-requires-2
-refuse-requires-2 c κs = λ _. taken-sized _ _ _ _ _ (none-early (c .before .before .before .before .before .before)) .1
+refuse-requires-2 c κs = λ _. taken-sized _ _ _ _ _ _ _ (none-early (c .before .before .before .before .before .before .before .before .before)) .1
 
 without-order-requires-3 : tie.Need-without-order-requires-3
 without-order-requires-3 c κs = search needs
@@ -97,7 +108,13 @@ returns-3 c =
     rw (c .without-order3 .ensures, c .before .before .before .refuse2 .ensures .0, c .before .before .before .refuse2 .ensures .1, ← l, ne-eqb _ _ (c .before .before .before .before .before .if3 .taken))
 
 order-requires : tie.Need-order-requires
-order-requires c κs = protocol-requires (c .before .before .before .before .before) κs
+order-requires c κs =
+    let p = c .before .before .before .before .before .before .before .protocol .ensures in
+    (
+      whole-command (c .before .before .before .before .before .before .before .before),
+      c .before .before .before .before .read .ensures,
+      λ r. rw (c .before .before .in-bytes .ensures, c .before .before .before .block-size .ensures .0) (length-fits _ _ _ _ _ _ (c .before .before .before .before .before .before .before .before .before .before .before .before .before .before .before .before .args .declared) _ (none-early (c .before .before .before .before .before .before .before .before)) (sym (late-is (c .before)) ∙ c .if3 .left) (rw p at (ne-eqb _ _ (c .before .before .before .before .before .before .if2 .left))) (c .before .before .before .before .before .before .before .before .before .before .before .before .before .before .before .before .fits .declared .fits) r),
+    )
 
 taking-requires : tie.Need-taking-requires
 taking-requires c κs = search needs
@@ -109,7 +126,7 @@ returns-4 : tie.Need-returns-4
 unfolding submit
 returns-4 c =
     let l = by-length (c .before .before .before .before) in
-    rw (c .answer .ensures, c .before .taking .ensures, c .before .before .order .ensures, ← l, eq-eqb _ _ (c .before .before .before .if3 .left), ← c .before .before .before .before .before .before .before .protocol .ensures, ne-eqb _ _ (c .before .before .before .before .before .before .if2 .left))
+    rw (c .answer .ensures, c .before .taking .ensures, c .before .before .order .ensures, c .before .before .before .before .before .in-bytes .ensures, c .before .before .before .before .before .before .block-size .ensures .0, ← l, eq-eqb _ _ (c .before .before .before .if3 .left), ← c .before .before .before .before .before .before .before .before .before .before .protocol .ensures, ne-eqb _ _ (c .before .before .before .before .before .before .before .before .before .if2 .left))
 
 pub submit-spec : {M : Type 1} → statement M
 submit-spec =
@@ -126,6 +143,9 @@ submit-spec =
     without-order-requires-2
     same-length-2
     returns-2
+    lacking-requires
+    read-requires
+    block-size-requires
     in-bytes-requires
     length-fault-requires
     refuse-requires-2

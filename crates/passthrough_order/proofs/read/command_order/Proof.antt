@@ -9,6 +9,9 @@ protocol-requires c κs = search needs
 t-dir-requires : tie.Need-t-dir-requires
 t-dir-requires c κs = search needs
 
+cast-t7 : tie.Need-cast-t7
+cast-t7 c = search needs
+
 off-line-requires : tie.Need-off-line-requires
 off-line-requires c κs = search needs
 
@@ -45,6 +48,7 @@ command-order-spec =
     (tie.spec
     protocol-requires
     t-dir-requires
+    cast-t7
     off-line-requires
     quiet-seconds-requires
     multiple-count-requires

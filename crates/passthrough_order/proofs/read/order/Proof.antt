@@ -19,7 +19,9 @@ unfolding orderOf
 returns c = rw (sym (rw (c .before .before .before .protocol .ensures) at (c .before .before .reset .ensures)) ∙ c .before .if1 .taken) (c .reset-order .ensures)
 
 command-order-requires : tie.Need-command-order-requires
-command-order-requires c κs = search needs
+command-order-requires c κs =
+    let e = c .before .before .before .before .pre in
+    (e .0, e .1, e .2 (sym (rw (c .before .before .protocol .ensures) at (c .before .reset .ensures)) ∙ c .if1 .left))
 
 returns-2 : tie.Need-returns-2
 unfolding orderOf
