@@ -73,14 +73,18 @@ pub extern "C" fn piongseut_submit(
     state: &mut Pending,
     command: &[u8],
     registers: &[u8],
+    block: &[u8],
     declared: u32,
+    edition: u8,
     form: u8,
     sense: &mut [u8],
 ) -> Taken
-    ensures { λ r. ⌜ submitOutcome (record { next = now (state .exit); taken = r }) (now (sense .exit)) ≡ submitRule (now (state .entry)) (now (command .entry)) (now (registers .entry)) declared form (now (sense .entry)) ⌝ }
+    ensures { λ r. ⌜ submitOutcome (record { next = now (state .exit); taken = r }) (now (sense .exit)) ≡ submitRule (now (state .entry)) (now (command .entry)) (now (registers .entry)) (now (block .entry)) declared edition form (now (sense .entry)) ⌝ }
 {
     let p = *state;
-    let submitted = p.submit(command, registers, declared, form, sense);
+    let submitted = p.submit(
+        command, registers, block, declared, edition, form, sense,
+    );
     if submitted.next.state != p.state {
         *state = submitted.next;
     }

@@ -54,7 +54,7 @@ use Rattle.piongseut.proofs.piongseut_submit.Statement as stated
 use Rattle.piongseut.proofs.piongseut_submit.Code as code
 
 -- the other parameters, and what the contract keeps of them
-abbrev ss : List (Slot 4)
+abbrev ss : List (Slot 5)
 ss = others (f.signature .params)
 
 abbrev ks : Kepts ss
@@ -64,23 +64,23 @@ abbrev machO : Taken → Val
 machO r = LL.tuple-val O.the-type O′.the-laws (O.the-type .to r)
 
 -- how the parameters' machine values are spelled
-abbrev spells : (κs : Lfts 4) → Spells (typesAt (f.signature .params) κs)
-spells κs = (ptr-vals, (slice-vals, (slice-vals, (uint-vals w32, (uint-vals w8, (slice-vals, tt))))))
+abbrev spells : (κs : Lfts 5) → Spells (typesAt (f.signature .params) κs)
+spells κs = (ptr-vals, (slice-vals, (slice-vals, (slice-vals, (uint-vals w32, (uint-vals w8, (uint-vals w8, (slice-vals, tt))))))))
 
-tell : (κs : Lfts 4) → Tellss (typesAt (f.signature .params) κs) (Ises (typesAt (f.signature .params) κs)) (spells κs)
-tell κs = (mut-tells (named 0) (κs .0) T.the-row, (shr-slice-tells (named 1) (κs .1 .0) u8, (shr-slice-tells (named 2) (κs .1 .1 .0) u8, (uint-tells w32, (uint-tells w8, (mut-slice-tells (named 3) (κs .1 .1 .1 .0) u8, tt))))))
+tell : (κs : Lfts 5) → Tellss (typesAt (f.signature .params) κs) (Ises (typesAt (f.signature .params) κs)) (spells κs)
+tell κs = (mut-tells (named 0) (κs .0) T.the-row, (shr-slice-tells (named 1) (κs .1 .0) u8, (shr-slice-tells (named 2) (κs .1 .1 .0) u8, (shr-slice-tells (named 3) (κs .1 .1 .1 .0) u8, (uint-tells w32, (uint-tells w8, (uint-tells w8, (mut-slice-tells (named 4) (κs .1 .1 .1 .1 .0) u8, tt))))))))
 
 module _ {M : Type 1} (𝓤 : URA M) (H : Heap 𝓤) (A : Atoms 𝓤) (mem′ : Memory → SProp 𝓤) (run : Routine → Fun 𝓤) where
   abbrev Step : Contract 𝓤
   Step = tripleOf 𝓤 H A step.signature (step.spec 𝓤 H A mem′ run)
 
-module _ {M : Type 1} (𝓤 : URA M) (H : Heap 𝓤) (A : Atoms 𝓤) (W : Given 𝓤 H A) (at-mem : Memory → SProp 𝓤) (run : Routine → Fun 𝓤) (κs : Lfts 4) (qs : Shares 4) (a : Args f.signature κs) where
+module _ {M : Type 1} (𝓤 : URA M) (H : Heap 𝓤) (A : Atoms 𝓤) (W : Given 𝓤 H A) (at-mem : Memory → SProp 𝓤) (run : Routine → Fun 𝓤) (κs : Lfts 5) (qs : Shares 5) (a : Args f.signature κs) where
   abbrev at : Vals f.signature κs
   at = valss (typesAt (f.signature .params) κs) (spells κs) a
 
   -- of the others: their tokens, what they own, and what is said of their last values
   abbrev Tokens : Item 𝓤
-  Tokens = raw (toks 𝓤 A 3 (κs .1) (qs .1))
+  Tokens = raw (toks 𝓤 A 4 (κs .1) (qs .1))
 
   abbrev Rest : Fml
   Rest = owns (typesAt ss κs) (a .1) (at .1)
@@ -90,50 +90,52 @@ module _ {M : Type 1} (𝓤 : URA M) (H : Heap 𝓤) (A : Atoms 𝓤) (W : Given
 
   -- what the step ensures
   abbrev Said : Submitted → Fins κs ss ks (a .1) → Type 0
-  Said r w = stepOutcome r (w .1 .1 .1 .1 .0) ≡ submitRule (a .0 .now) (now (a .1 .0)) (now (a .1 .1 .0)) (a .1 .1 .1 .0) (a .1 .1 .1 .1 .0) (now (a .1 .1 .1 .1 .1 .0))
+  Said r w = stepOutcome r (w .1 .1 .1 .1 .1 .1 .0) ≡ submitRule (a .0 .now) (now (a .1 .0)) (now (a .1 .1 .0)) (now (a .1 .1 .1 .0)) (a .1 .1 .1 .1 .0) (a .1 .1 .1 .1 .1 .0) (a .1 .1 .1 .1 .1 .1 .0) (now (a .1 .1 .1 .1 .1 .1 .1 .0))
 
   abbrev to-step : Step 𝓤 H A at-mem run .Ghost
   to-step = ((κs .1, qs .1, tt, (a .0 .now, a .1), (mach (a .0 .now) ∷ [], at .1)), tt)
 
   module _ (C : Calls 𝓤 H) (Λ : Loops 𝓤 H) (fm : FmC 𝓤 H (W .laws) C) (known : Triple 𝓤 (C #step) (Step 𝓤 H A at-mem run)) where
-    walk : Are (typesAt (f.signature .params) κs) (Ises (typesAt (f.signature .params) κs)) a at → ent 𝓤 (onEntry 𝓤 H A f.signature κs qs a at) (WpFn 𝓤 H C Λ code.function (flat (typesAt (f.signature .params) κs) at) (PostAt 3 ss ks O.the-row 𝓤 H A W (f.clauses 𝓤 H A at-mem run) κs qs a at tt))
+    walk : Are (typesAt (f.signature .params) κs) (Ises (typesAt (f.signature .params) κs)) a at → ent 𝓤 (onEntry 𝓤 H A f.signature κs qs a at) (WpFn 𝓤 H C Λ code.function (flat (typesAt (f.signature .params) κs) at) (PostAt 4 ss ks O.the-row 𝓤 H A W (f.clauses 𝓤 H A at-mem run) κs qs a at tt))
     walk are =
         qed W ((‵ (flft (κs .0) (qs .0)) ⊛ Tokens) ∷ ‵ (owns (typesAt (f.signature .params) κs) a at) ∷ []) ∵ split ! $ move ! (2 ∷ []) $ fsplit ! $ fsplit3 ! $ drop ! $ move ! (0 ∷ 1 ∷ 3 ∷ []) $
         -- [obs; the borrow; its token; Rest; Tokens]
-        enter ! C Λ code.function (flat (typesAt (f.signature .params) κs) at) _ $ alloc1 ! (λ l0. alloc1 ! (λ l1. alloc1 ! (λ l2. alloc1 ! (λ l3. alloc1 ! (λ l4. alloc1 ! (λ l5. alloc1 ! (λ l6. alloc1 ! (λ l7. alloc1 ! (λ l8. alloc1 ! (λ l9. alloc1 ! (λ l10. alloc1 ! (λ l11. alloc0 ! $ params1 ! $
-        pass1 ! (init ! 20 refl (tt, tt)) $
-        pass1 ! (init ! 18 refl (shr-slice-lawful 𝓤 H A W (named 1) (κs .1 .0) u8 .typed (a .1 .0) _ (are .1 .0) .0)) $
-        pass1 ! (init ! 16 refl (shr-slice-lawful 𝓤 H A W (named 2) (κs .1 .1 .0) u8 .typed (a .1 .1 .0) _ (are .1 .1 .0) .0)) $
-        pass1 ! (init ! 14 refl (tt, record { fits = are .1 .1 .1 .0 .1 })) $
-        pass1 ! (init ! 12 refl (tt, record { fits = are .1 .1 .1 .1 .0 .1 })) $
-        pass1 ! (init ! 10 refl (mut-slice-lawful 𝓤 H A W (named 3) (κs .1 .1 .1 .0) u8 .typed (a .1 .1 .1 .1 .1 .0) _ (are .1 .1 .1 .1 .1 .0) .0)) $ pass0 ! $
-        -- [the 12 locals, _11 first, each with what frees it: _i at 2 · (11 − i); obs (24); the borrow; its token; Rest; Tokens]
-        move ! (24 ∷ 25 ∷ 26 ∷ []) $ opened ! tt (a .0 .now) (a .0 .ptr .0) (a .0 .ptr .1) (λ was.
-        -- [the cell; the open borrow; obs; auth; _i at 4 + 2 · (11 − i); Rest (28); Tokens]
-        assigns ! (of-opd ! (load ! (from ! (hop ! (look ! 24 refl) (stop !))) (look-raw ! 0 refl))) (from ! (stop !)) (init ! 12 refl (LL.lawful T.the-type T′.the-laws 𝓤 H A W .typed (a .0 .now) _ was .0)) $
+        enter ! C Λ code.function (flat (typesAt (f.signature .params) κs) at) _ $ alloc1 ! (λ l0. alloc1 ! (λ l1. alloc1 ! (λ l2. alloc1 ! (λ l3. alloc1 ! (λ l4. alloc1 ! (λ l5. alloc1 ! (λ l6. alloc1 ! (λ l7. alloc1 ! (λ l8. alloc1 ! (λ l9. alloc1 ! (λ l10. alloc1 ! (λ l11. alloc1 ! (λ l12. alloc1 ! (λ l13. alloc0 ! $ params1 ! $
+        pass1 ! (init ! 24 refl (tt, tt)) $
+        pass1 ! (init ! 22 refl (shr-slice-lawful 𝓤 H A W (named 1) (κs .1 .0) u8 .typed (a .1 .0) _ (are .1 .0) .0)) $
+        pass1 ! (init ! 20 refl (shr-slice-lawful 𝓤 H A W (named 2) (κs .1 .1 .0) u8 .typed (a .1 .1 .0) _ (are .1 .1 .0) .0)) $
+        pass1 ! (init ! 18 refl (shr-slice-lawful 𝓤 H A W (named 3) (κs .1 .1 .1 .0) u8 .typed (a .1 .1 .1 .0) _ (are .1 .1 .1 .0) .0)) $
+        pass1 ! (init ! 16 refl (tt, record { fits = are .1 .1 .1 .1 .0 .1 })) $
+        pass1 ! (init ! 14 refl (tt, record { fits = are .1 .1 .1 .1 .1 .0 .1 })) $
+        pass1 ! (init ! 12 refl (tt, record { fits = are .1 .1 .1 .1 .1 .1 .0 .1 })) $
+        pass1 ! (init ! 10 refl (mut-slice-lawful 𝓤 H A W (named 4) (κs .1 .1 .1 .1 .0) u8 .typed (a .1 .1 .1 .1 .1 .1 .1 .0) _ (are .1 .1 .1 .1 .1 .1 .1 .0) .0)) $ pass0 ! $
+        -- [the 14 locals, _13 first, each with what frees it: _i at 2 · (13 − i); obs (28); the borrow; its token; Rest; Tokens]
+        move ! (28 ∷ 29 ∷ 30 ∷ []) $ opened ! tt (a .0 .now) (a .0 .ptr .0) (a .0 .ptr .1) (λ was.
+        -- [the cell; the open borrow; obs; auth; _i at 4 + 2 · (13 − i); Rest (32); Tokens]
+        assigns ! (of-opd ! (load ! (from ! (hop ! (look ! 28 refl) (stop !))) (look-raw ! 0 refl))) (from ! (stop !)) (init ! 12 refl (LL.lawful T.the-type T′.the-laws 𝓤 H A W .typed (a .0 .now) _ was .0)) $
         assigns ! (addr ! (from ! (fld ! refl (hop ! (look-in ! 14 (sub ! 0 refl (whole !))) (stop !))))) (from ! (stop !)) (init ! 8 refl (tt, tt)) $
-        assigns ! (agg ! (and-then ! (load ! (from ! (stop !)) (look ! 8 refl)) (and-then ! (load ! (from ! (fld ! refl (stop !))) (look-in ! 14 (sub ! 1 refl (whole !)))) (no-more !)))) (from ! (stop !)) (init ! 6 refl (tt, (tt, (record { fits = are .1 .1 .1 .1 .1 .0 .0 .1 .0 }, tt)))) $
-        move ! (28 ∷ 29 ∷ []) $ use2 W (raw (Step 𝓤 H A at-mem run .pre to-step)) (lends 𝓤 H A W (a .0 .now) Rest Tokens was) $
-        calls-at ! fm (Step 𝓤 H A at-mem run) known to-step (and-then ! (load ! (from ! (stop !)) (look ! 13 refl)) (and-then ! (load ! (from ! (stop !)) (look ! 23 refl)) (and-then ! (load ! (from ! (stop !)) (look ! 21 refl)) (and-then ! (load ! (from ! (stop !)) (look ! 19 refl)) (and-then ! (load ! (from ! (stop !)) (look ! 17 refl)) (and-then ! (load ! (from ! (stop !)) (look ! 7 refl)) (no-more !))))))) (λ v.
+        assigns ! (agg ! (and-then ! (load ! (from ! (stop !)) (look ! 8 refl)) (and-then ! (load ! (from ! (fld ! refl (stop !))) (look-in ! 14 (sub ! 1 refl (whole !)))) (no-more !)))) (from ! (stop !)) (init ! 6 refl (tt, (tt, (record { fits = are .1 .1 .1 .1 .1 .1 .1 .0 .0 .1 .0 }, tt)))) $
+        move ! (32 ∷ 33 ∷ []) $ use2 W (raw (Step 𝓤 H A at-mem run .pre to-step)) (lends 𝓤 H A W (a .0 .now) Rest Tokens was) $
+        calls-at ! fm (Step 𝓤 H A at-mem run) known to-step (and-then ! (load ! (from ! (stop !)) (look ! 13 refl)) (and-then ! (load ! (from ! (stop !)) (look ! 27 refl)) (and-then ! (load ! (from ! (stop !)) (look ! 25 refl)) (and-then ! (load ! (from ! (stop !)) (look ! 23 refl)) (and-then ! (load ! (from ! (stop !)) (look ! 21 refl)) (and-then ! (load ! (from ! (stop !)) (look ! 19 refl)) (and-then ! (load ! (from ! (stop !)) (look ! 17 refl)) (and-then ! (load ! (from ! (stop !)) (look ! 7 refl)) (no-more !))))))))) (λ v.
         use1 W (later (some (λ (r : Submitted). (Tokens ⊛ ‵ (N.the-row .own r (v ∷ []))) ⊛ some (λ (w : Unit {0} × Fins κs ss ks (a .1)). ‵ (fsep ftrue (Last (w .1))) ⊛ raw (fact 𝓤 (Said r (w .1))))))) (id⊢ 𝓤 _) $ back ! tt N.the-row Tokens v (Fins κs ss ks (a .1)) Last Said (λ r w e is.
         let all = LL.owed N.the-type N′.the-laws r (v ∷ []) is in
         let ev : v ≡ LL.tuple-val N.the-type N′.the-laws (N.the-type .to r) = ap only (LL.tells N.the-type N′.the-laws r (v ∷ []) is) in
         rw ev
-        -- [Tokens; the last values; the cell; the open borrow; obs; auth; _i at 6 + 2 · (11 − i)]
+        -- [Tokens; the last values; the cell; the open borrow; obs; auth; _i at 6 + 2 · (13 − i)]
         (land ! (from ! (stop !)) (init ! 12 refl (LL.lawful N.the-type N′.the-laws 𝓤 H A W .typed r _ (LL.owes N.the-type N′.the-laws r all) .0)) $
         assigns ! (bin ! (load ! (from ! (fld ! refl (fld ! refl (stop !)))) (look-in ! 12 (sub ! 0 refl (sub ! 0 refl (whole !))))) (load ! (from ! (fld ! refl (stop !))) (look-in ! 14 (sub ! 0 refl (whole !)))) tt) (from ! (stop !)) (init ! 6 refl (tt, tt)) $
-        stores-if ! 2 (load ! (from ! (stop !)) (look ! 6 refl)) (of-opd ! (load ! (from ! (fld ! refl (stop !))) (look-in ! 12 (sub ! 0 refl (whole !))))) (from ! (hop ! (look ! 26 refl) (stop !))) refl (LL.lawful T.the-type T′.the-laws 𝓤 H A W .typed (r .next) _ (all .0) .0)
-        (λ z. ap mach (sym (submit-unmoved (a .0 .now) (now (a .1 .0)) (now (a .1 .1 .0)) (a .1 .1 .1 .0) (a .1 .1 .1 .1 .0) (now (a .1 .1 .1 .1 .1 .0)) e (same-number (r .next .state) (a .0 .now .state) z)))) $
-        assigns ! (of-opd ! (load ! (from ! (fld ! refl (stop !))) (look-in ! 12 (sub ! 1 refl (whole !))))) (from ! (stop !)) (init ! 28 refl (LL.lawful O.the-type O′.the-laws 𝓤 H A W .typed (r .taken) _ (all .1 .0) .0)) $
+        stores-if ! 2 (load ! (from ! (stop !)) (look ! 6 refl)) (of-opd ! (load ! (from ! (fld ! refl (stop !))) (look-in ! 12 (sub ! 0 refl (whole !))))) (from ! (hop ! (look ! 30 refl) (stop !))) refl (LL.lawful T.the-type T′.the-laws 𝓤 H A W .typed (r .next) _ (all .0) .0)
+        (λ z. ap mach (sym (submit-unmoved (a .0 .now) (now (a .1 .0)) (now (a .1 .1 .0)) (now (a .1 .1 .1 .0)) (a .1 .1 .1 .1 .0) (a .1 .1 .1 .1 .1 .0) (a .1 .1 .1 .1 .1 .1 .0) (now (a .1 .1 .1 .1 .1 .1 .1 .0)) e (same-number (r .next .state) (a .0 .now .state) z)))) $
+        assigns ! (of-opd ! (load ! (from ! (fld ! refl (stop !))) (look-in ! 12 (sub ! 1 refl (whole !))))) (from ! (stop !)) (init ! 32 refl (LL.lawful O.the-type O′.the-laws 𝓤 H A W .typed (r .taken) _ (all .1 .0) .0)) $
         move ! (2 ∷ 3 ∷ 4 ∷ 5 ∷ []) $ closed ! tt (r .next) (a .0 .ptr .0) (a .0 .ptr .1) (all .0) $
-        -- [obs; the borrow; its token; Tokens; the last values; _i at 5 + 2 · (11 − i)]
-        returns ! (look ! 27 refl) $ forget ! 5 refl $ forget ! 7 refl $ forget ! 9 refl $ forget ! 11 refl $ forget ! 13 refl $ forget ! 15 refl $ forget ! 17 refl $ forget ! 19 refl $ forget ! 21 refl $ forget ! 23 refl $ forget ! 25 refl $ forget ! 27 refl $
-        move ! (27 ∷ 28 ∷ []) $ free1 ! $ move ! (25 ∷ 26 ∷ []) $ free1 ! $ move ! (23 ∷ 24 ∷ []) $ free1 ! $ move ! (21 ∷ 22 ∷ []) $ free1 ! $ move ! (19 ∷ 20 ∷ []) $ free1 ! $ move ! (17 ∷ 18 ∷ []) $ free1 ! $ move ! (15 ∷ 16 ∷ []) $ free1 ! $ move ! (13 ∷ 14 ∷ []) $ free1 ! $ move ! (11 ∷ 12 ∷ []) $ free1 ! $ move ! (9 ∷ 10 ∷ []) $ free1 ! $ move ! (7 ∷ 8 ∷ []) $ free1 ! $ move ! (5 ∷ 6 ∷ []) $ free1 ! $ free0 ! $
-        by ! (exits 3 ss ks O.the-row 𝓤 H A W (f.clauses 𝓤 H A at-mem run) κs qs a (at .1) tt (r .next) w (r .taken) (machO (r .taken)) (factI 𝓤 _ (emp 𝓤) e) (LL.makes O.the-type O′.the-plain 𝓤 H A (r .taken) _ (all .1 .0)))))))))))))))))))
+        -- [obs; the borrow; its token; Tokens; the last values; _i at 5 + 2 · (13 − i)]
+        returns ! (look ! 31 refl) $ forget ! 5 refl $ forget ! 7 refl $ forget ! 9 refl $ forget ! 11 refl $ forget ! 13 refl $ forget ! 15 refl $ forget ! 17 refl $ forget ! 19 refl $ forget ! 21 refl $ forget ! 23 refl $ forget ! 25 refl $ forget ! 27 refl $ forget ! 29 refl $ forget ! 31 refl $
+        move ! (31 ∷ 32 ∷ []) $ free1 ! $ move ! (29 ∷ 30 ∷ []) $ free1 ! $ move ! (27 ∷ 28 ∷ []) $ free1 ! $ move ! (25 ∷ 26 ∷ []) $ free1 ! $ move ! (23 ∷ 24 ∷ []) $ free1 ! $ move ! (21 ∷ 22 ∷ []) $ free1 ! $ move ! (19 ∷ 20 ∷ []) $ free1 ! $ move ! (17 ∷ 18 ∷ []) $ free1 ! $ move ! (15 ∷ 16 ∷ []) $ free1 ! $ move ! (13 ∷ 14 ∷ []) $ free1 ! $ move ! (11 ∷ 12 ∷ []) $ free1 ! $ move ! (9 ∷ 10 ∷ []) $ free1 ! $ move ! (7 ∷ 8 ∷ []) $ free1 ! $ move ! (5 ∷ 6 ∷ []) $ free1 ! $ free0 ! $
+        by ! (exits 4 ss ks O.the-row 𝓤 H A W (f.clauses 𝓤 H A at-mem run) κs qs a (at .1) tt (r .next) w (r .taken) (machO (r .taken)) (factI 𝓤 _ (emp 𝓤) e) (LL.makes O.the-type O′.the-plain 𝓤 H A (r .taken) _ (all .1 .0)))))))))))))))))))))
 
 meets : {M : Type 1} (𝓤 : URA M) (H : Heap 𝓤) (A : Atoms 𝓤) (W : Given 𝓤 H A) (at-mem : Memory → SProp 𝓤) (run : Routine → Fun 𝓤) (𝓣 : Tables 𝓤 H)
     → Triple 𝓤 (𝓣 .C #step) (Step 𝓤 H A at-mem run) → Meets 𝓤 H A f.signature (WpFn 𝓤 H (𝓣 .C) (𝓣 .Λ) code.function) (f.spec 𝓤 H A at-mem run)
-meets 𝓤 H A W at-mem run 𝓣 known = thin-meets 3 ss ks O.the-row 𝓤 H A W (f.clauses 𝓤 H A at-mem run) code.function 𝓣 spells tell (λ κs qs a g are. walk 𝓤 H A W at-mem run κs qs a (𝓣 .C) (𝓣 .Λ) (fmOf 𝓤 H (W .laws) 𝓣) known are)
+meets 𝓤 H A W at-mem run 𝓣 known = thin-meets 4 ss ks O.the-row 𝓤 H A W (f.clauses 𝓤 H A at-mem run) code.function 𝓣 spells tell (λ κs qs a g are. walk 𝓤 H A W at-mem run κs qs a (𝓣 .C) (𝓣 .Λ) (fmOf 𝓤 H (W .laws) 𝓣) known are)
 
 pub piongseut-submit-spec : {M : Type 1} → stated.statement M
 unfolding code.routine tablesOf
