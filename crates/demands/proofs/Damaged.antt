@@ -27,11 +27,20 @@ use Rattle.intake.proofs.Stream.{whole-block, sum-of-the-block, no-block-yet}
 use Rattle.received.specs.Received as Received
 use Rattle.received.specs.Received.{inquiryOf, gatherOf, rollOf, gathered}
 use Rattle.tally.specs.Census.{refusalOf, feed}
+use Rattle.passthrough_order.specs.Order.{noOrder}
+use Rattle.passthrough_checks.specs.Checks as PassChecks
+use Rattle.passthrough.specs.declared.Pending.{Pending}
+use Rattle.passthrough.specs.Submit as Submit
+use Rattle.passthrough.specs.Submit.{isLater, submit}
 use Rattle.demands.specs.Promises.{SomeDamaged, RollSized, DamagedIsRefused, CarriedSum}
 
 of-inquiry : (q : Request) (form : ℕ) (room sense : List ℕ) → InquiryChecks.wrongSize (q .block) (q .signature) (q .texts) (q .ports) (q .address) (length sense) ≡ false → damaged (q .block) ≡ true → inquiry q form room sense ≡ Inquiry.outcome (record { number = 18; status = noStatus; shown = 1; count = 0 }) room sense
 unfolding inquiry InquiryChecks.refusalOf refusedSense rowOf
 of-inquiry q form room sense s d = rw (s, d)
+
+of-submit : (p : Pending) (command registers block : List ℕ) (declared edition form : ℕ) (sense : List ℕ) → isLater edition ≡ true → PassChecks.wrongSize (length registers) (length sense) ≡ false → damaged block ≡ true → submit p command registers block declared edition form sense ≡ Submit.outcome (Submit.answer p 18 noStatus noOrder) sense
+unfolding submit PassChecks.refusalOf refusedSense rowOf
+of-submit p command registers block declared edition form sense l s d = rw (l, s, eq-eqb _ _ (damaged-size block d), d)
 
 of-write : (block : List ℕ) (ports : Ports) (address room : List ℕ) → wrongAddress ports address ≡ false → damaged block ≡ true → write block ports address room ≡ Page83.outcome (record { number = 18; count = 0 }) room
 unfolding write Page83.refusalOf
@@ -51,6 +60,7 @@ unfolding roll gatherOf Received.gatherRefusal inquiryOf rollOf Received.refusal
 damaged-is-refused =
     record {
       of-inquiry = of-inquiry;
+      of-submit = of-submit;
       of-write = of-write;
       of-roll = λ bytes room s w. rw (roll-refusal bytes (length room) s w);
       of-gather = λ haves stores room right w. rw (right, some-damaged (gathered haves stores) w);

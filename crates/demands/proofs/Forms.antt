@@ -22,7 +22,6 @@ use Rattle.inquiry_checks.proofs.Laws as InquiryLaws
 use Rattle.inquiry.specs.Inquiry as Inquiry
 use Rattle.inquiry.specs.Inquiry.{inquiry}
 use Rattle.passthrough_fields.specs.Fields.{protocol}
-use Rattle.passthrough_order.specs.Order.{orderOf}
 use Rattle.passthrough_checks.specs.Checks as Check
 use Rattle.passthrough_checks.proofs.Laws as PassLaws
 use Rattle.passthrough.specs.declared.Pending.{Pending}
@@ -85,21 +84,21 @@ module _ (form other : ℕ) (f : isFixed form ≡ true) (o : isFixed other ≡ f
       by true false = quiet good good-untold
       by false through = refused-alike r enough
 
-  of-submit : (p : Pending) (command registers : List ℕ) (declared : ℕ) → ToldAlike (submit p command registers declared form room .submitted .taken .status) room (submit p command registers declared form room .sense) (submit p command registers declared other room .sense)
+  of-submit : (p : Pending) (command registers block : List ℕ) (declared edition : ℕ) → ToldAlike (submit p command registers block declared edition form room .submitted .taken .status) room (submit p command registers block declared edition form room .sense) (submit p command registers block declared edition other room .sense)
   unfolding submit Check.refusalOf
-  of-submit p command registers declared = by (eqb r 0) (eqb (protocol command) 15) refl
+  of-submit p command registers block declared edition = by (eqb r 0) (eqb (protocol command) 15) refl
     where
       r : ℕ
-      r = Submit.refusalOf p command registers declared (length room)
+      r = Submit.refusalOf p command registers block declared edition (length room)
 
       enough : Roomy r (length room)
       enough = roomy-unless (Check.wrongSize (length registers) (length room)) _ (λ w. PassLaws.sized (length registers) (length room) w .1) refl
 
       either : ℕ → Bool → Bool → Submit.Outcome
-      either g t told = cond t (cond told (Submit.reported p registers g room) (Submit.taken p (orderOf command declared) room)) (Submit.refused p g r room)
+      either g t told = cond t (cond told (Submit.reported p registers g room) (Submit.taken p (Submit.made command block declared edition) room)) (Submit.refused p g r room)
 
       by : (t told : Bool) → eqb r 0 ≡ t → ToldAlike (either form t told .submitted .taken .status) room (either form t told .sense) (either other t told .sense)
-      by true true e = written-alike (PassLaws.sized (length registers) (length room) (silent (Check.checksOf (not (nothingPending p)) (resetPending p) command (length registers) declared (length room)) refl (eqb-true r 0 e) .0) .1) 0x01 0x00 0x1D (showing false registers)
+      by true true e = written-alike (PassLaws.sized (length registers) (length room) (silent (Check.checksOf (not (nothingPending p)) (resetPending p) (Submit.isLater edition) command (length registers) block declared (length room)) refl (eqb-true r 0 e) .0) .1) 0x01 0x00 0x1D (showing false registers)
       by true false e = quiet noStatus none-untold
       by false told e = refused-alike r enough
 
@@ -146,7 +145,7 @@ forms-agree-everywhere =
     record {
       of-sense-data = forms-agree;
       of-inquiry = λ q form other room sense f o. of-inquiry form other f o sense q room;
-      of-submit = λ p command registers declared form other sense f o. of-submit form other f o sense p command registers declared;
+      of-submit = λ p command registers block declared edition form other sense f o. of-submit form other f o sense p command registers block declared edition;
       of-complete = λ p registers form other sense f o. of-complete form other f o sense p registers;
       of-inquiry-from-intake = λ have store command signature texts reply ports address form other room sense f o. of-inquiry-from-intake form other f o sense have store command signature texts reply ports address room;
     }
@@ -161,10 +160,10 @@ module _ (q : Request) (form other : ℕ) (room sense : List ℕ) where
   of-inquiry-rest true through = (refl, refl)
   of-inquiry-rest false through = (refl, refl)
 
-module _ (p : Pending) (command registers : List ℕ) (declared form other : ℕ) (sense : List ℕ) where
+module _ (p : Pending) (command registers block : List ℕ) (declared edition form other : ℕ) (sense : List ℕ) where
   abbrev submitBy : ℕ → Bool → Bool → Submit.Outcome
   submitBy g t told =
-      cond t (cond told (Submit.reported p registers g sense) (Submit.taken p (orderOf command declared) sense)) (Submit.refused p g (Submit.refusalOf p command registers declared (length sense)) sense)
+      cond t (cond told (Submit.reported p registers g sense) (Submit.taken p (Submit.made command block declared edition) sense)) (Submit.refused p g (Submit.refusalOf p command registers block declared edition (length sense)) sense)
 
   of-submit-rest : (t told : Bool) → submitBy form t told .submitted ≡ submitBy other t told .submitted
   of-submit-rest true true = refl
@@ -196,7 +195,7 @@ unfolding inquiry submit complete inquiryOf
 form-changes-only-sense =
     record {
       of-inquiry = λ q form other room sense. of-inquiry-rest q form other room sense (eqb (InquiryChecks.refusalOf q (length room) (length sense)) 0) (passesThrough (isPacket q) (q .command));
-      of-submit = λ p command registers declared form other sense. of-submit-rest p command registers declared form other sense (eqb (Submit.refusalOf p command registers declared (length sense)) 0) (eqb (protocol command) 15);
+      of-submit = λ p command registers block declared edition form other sense. of-submit-rest p command registers block declared edition form other sense (eqb (Submit.refusalOf p command registers block declared edition (length sense)) 0) (eqb (protocol command) 15);
       of-complete = λ p registers form other sense. of-complete-rest p registers form other sense (eqb (Complete.refusalOf p registers (length sense)) 0);
       of-inquiry-from-intake = λ have store command signature texts reply ports address form other room sense. of-intake-rest have store command signature texts reply ports address form other room sense (wrongIntake have (length store));
     }
@@ -209,7 +208,7 @@ usual-form =
       of-fixed = λ key asc ascq told. refl;
       of-descriptor = λ key asc ascq told. refl;
       of-inquiry = λ q room sense. refl;
-      of-submit = λ p command registers declared sense. refl;
+      of-submit = λ p command registers block declared edition sense. refl;
       of-complete = λ p registers sense. refl;
       of-inquiry-from-intake = λ have store command signature texts reply ports address room sense. refl;
     }

@@ -10,7 +10,7 @@ use Rattle.rules.specs.Bits.{flag}
 use Rattle.rules.proofs.First.{silent, neither}
 use Rattle.passthrough_fields.specs.Fields.{protocol}
 use Rattle.passthrough_order.specs.declared.Order.{Order}
-use Rattle.passthrough_order.specs.Order.{reset, orderOf}
+use Rattle.passthrough_order.specs.Order.{reset}
 use Rattle.passthrough.specs.declared.Pending.{Pending}
 use Rattle.passthrough.specs.Record.{nothingPending, resetOver, resetPending, taking}
 use Rattle.passthrough.specs.Submit as Submit
@@ -29,12 +29,12 @@ no-reset : (p : Pending) → nothingPending p ≡ false → resetPending p ≡ f
 no-reset p n r = rw n at (neither (resetOver p) (not (nothingPending p) && reset (p .order .protocol)) r .1)
 
 -- A command as it is submitted to a record: refused and told it leaves the record, taken its order waits behind what waited.
-module _ (p : Pending) (command registers : List ℕ) (declared form : ℕ) (sense : List ℕ) where
+module _ (p : Pending) (command registers block : List ℕ) (declared edition form : ℕ) (sense : List ℕ) where
   abbrev refusal : ℕ
-  refusal = Submit.refusalOf p command registers declared (length sense)
+  refusal = Submit.refusalOf p command registers block declared edition (length sense)
 
   abbrev order : Order
-  order = orderOf command declared
+  order = Submit.made command block declared edition
 
   abbrev outcome : Bool → Bool → Submit.Outcome
   outcome t told = cond t (cond told (Submit.reported p registers form sense) (Submit.taken p order sense)) (Submit.refused p form refusal sense)
@@ -45,25 +45,25 @@ module _ (p : Pending) (command registers : List ℕ) (declared form : ℕ) (sen
 
   stacked : (free : Bool) → nothingPending p ≡ free → (free ≡ false → (reset (protocol command) ≡ true) × (resetPending p ≡ false)) → Stacked (waiting (taking p order))
   stacked true n o = rw n tt
-  stacked false n o = rw (n, reset-whole command declared (o refl .0)) (no-reset p n (o refl .1), o refl .0)
+  stacked false n o = rw (n, reset-whole command _ (o refl .0)) (no-reset p n (o refl .1), o refl .0)
 
-  submit-waits : waiting (submit p command registers declared form sense .submitted .next) ≡ waiting p ++ takenOf (protocol command) (submit p command registers declared form sense .submitted .taken)
+  submit-waits : waiting (submit p command registers block declared edition form sense .submitted .next) ≡ waiting p ++ takenOf (protocol command) (submit p command registers block declared edition form sense .submitted .taken)
   unfolding submit
   submit-waits = by (eqb refusal 0) (eqb (protocol command) 15) refl refl
     where
       by : (t told : Bool) → eqb refusal 0 ≡ t → eqb (protocol command) 15 ≡ told → waiting (outcome t told .submitted .next) ≡ waiting p ++ takenOf (protocol command) (outcome t told .submitted .taken)
       by false told e f = rw e (sym (append-nil (waiting p)))
       by true true e f = rw f (sym (append-nil (waiting p)))
-      by true false e f = rw f (behind (nothingPending p) refl (taken-over p command registers declared (length sense) (eqb-true refusal 0 e) f))
+      by true false e f = rw f (behind (nothingPending p) refl (taken-over p command registers block declared edition (length sense) (eqb-true refusal 0 e) f))
 
-  submit-stacked : Stacked (waiting p) → Stacked (waiting (submit p command registers declared form sense .submitted .next))
+  submit-stacked : Stacked (waiting p) → Stacked (waiting (submit p command registers block declared edition form sense .submitted .next))
   unfolding submit
   submit-stacked s = by (eqb refusal 0) (eqb (protocol command) 15) refl refl
     where
       by : (t told : Bool) → eqb refusal 0 ≡ t → eqb (protocol command) 15 ≡ told → Stacked (waiting (outcome t told .submitted .next))
       by false told e f = s
       by true true e f = s
-      by true false e f = stacked (nothingPending p) refl (taken-over p command registers declared (length sense) (eqb-true refusal 0 e) f)
+      by true false e f = stacked (nothingPending p) refl (taken-over p command registers block declared edition (length sense) (eqb-true refusal 0 e) f)
 
 -- A completion: refused it leaves the record, and else it settles all that waited.
 module _ (p : Pending) (registers : List ℕ) (form : ℕ) (sense : List ℕ) where
@@ -117,19 +117,19 @@ module _ (p : Pending) (registers : List ℕ) (form : ℕ) (sense : List ℕ) wh
 
 -- So each step is entered right.
 step-waits : (p : Pending) (step : Step) → waiting (after p step) ≡ cond (ends p step) [] (waiting p ++ takes p step)
-step-waits p (submitting command registers declared form sense) = submit-waits p command registers declared form sense
+step-waits p (submitting command registers block declared edition form sense) = submit-waits p command registers block declared edition form sense
 step-waits p (completing registers form sense) = complete-waits p registers form sense ∙ ap (cond (ends p (completing registers form sense)) []) (sym (append-nil (waiting p)))
 
 step-settles : (p : Pending) (step : Step) → settles p step ≡ cond (ends p step) (waiting p) []
-step-settles p (submitting command registers declared form sense) = refl
+step-settles p (submitting command registers block declared edition form sense) = refl
 step-settles p (completing registers form sense) = complete-settles p registers form sense
 
 step-stacked : (p : Pending) (step : Step) → Stacked (waiting p) → Stacked (waiting (after p step))
-step-stacked p (submitting command registers declared form sense) = submit-stacked p command registers declared form sense
+step-stacked p (submitting command registers block declared edition form sense) = submit-stacked p command registers block declared edition form sense
 step-stacked p (completing registers form sense) = complete-stacked p registers form sense
 
 takes-or-ends : (p : Pending) (step : Step) → ends p step ≡ true → takes p step ≡ []
-takes-or-ends p (submitting command registers declared form sense) e = absurd (true≢false (sym e))
+takes-or-ends p (submitting command registers block declared edition form sense) e = absurd (true≢false (sym e))
 takes-or-ends p (completing registers form sense) e = refl
 
 -- A book that is right of the steps so far.

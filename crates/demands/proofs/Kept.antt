@@ -6,6 +6,7 @@ use Rattle.demands.proofs.Refusals.{refusals-change-nothing}
 use Rattle.demands.proofs.Soundings.{soundings-hold}
 use Rattle.demands.proofs.Inquiry.{within-allocation, cut-again, pages-of-inquiry}
 use Rattle.demands.proofs.Order.{direction-from-the-fields, only-the-command-differs, own-flags, completed-with-its-own-fields, taken-while-pending, protocol-15-keeps-the-record}
+use Rattle.demands.proofs.FirstEdition.{first-edition-stays}
 use Rattle.demands.proofs.History.{every-order-accounted}
 use Rattle.demands.proofs.Forms.{forms-agree-everywhere, form-changes-only-sense, usual-form}
 use Rattle.demands.proofs.Page83.{reads-back, accepted-is-written, writer-accepts, pages-of-the-writer}
@@ -22,7 +23,7 @@ one-outcome =
     record {
       of-inquiry = λ q form room sense. settled _;
       of-served = λ reply room shown count. settled _;
-      of-submit = λ p command registers declared form sense. settled _;
+      of-submit = λ p command registers block declared edition form sense. settled _;
       of-complete = λ p registers form sense. settled _;
       of-write = λ block ports address room. settled _;
       of-read = λ page. settled _;
@@ -46,6 +47,7 @@ kept =
       soundings-hold = soundings-hold;
       direction-from-the-fields = direction-from-the-fields;
       only-the-command-differs = only-the-command-differs;
+      first-edition-stays = first-edition-stays;
       own-flags = own-flags;
       completed-with-its-own-fields = completed-with-its-own-fields;
       taken-while-pending = taken-while-pending;

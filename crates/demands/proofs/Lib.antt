@@ -10,5 +10,6 @@ pub mod Roll
 pub mod Stream
 pub mod Damaged
 pub mod Census
+pub mod FirstEdition
 pub mod Forms
 pub mod Kept

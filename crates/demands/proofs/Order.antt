@@ -9,27 +9,32 @@ use lib.ListN.{length, getD, set}
 use lib.Seq.{getD-set-same, getD-set-other}
 use borrow.Author.Tests.{eqb-true, eqb-false, eq-eqb, ne-eqb, le-ltb}
 use Rattle.rules.specs.Bits.{flag}
-use Rattle.passthrough_fields.specs.Fields.{long, size, protocol, tDir, ckCond, extend}
+use Rattle.passthrough_fields.specs.Fields.{long, longest, protocol, tDir, ckCond, extend}
 use Rattle.passthrough_fields.specs.Helpers.{Whole}
 use Rattle.passthrough_fields.specs.Length.{lengthOf}
-use Rattle.passthrough_fields.proofs.Laws.{either}
+use Rattle.passthrough_checks.proofs.Laws.{whole}
 use Rattle.passthrough_order.specs.declared.Order.{Order}
 use Rattle.passthrough_order.specs.Order.{reset, resetOrder, directionOf, orderOf}
 use Rattle.passthrough_checks.specs.Checks as Checks
 use Rattle.passthrough.specs.declared.Pending.{Pending}
 use Rattle.passthrough.specs.Record.{nothingPending, resetPending}
 use Rattle.passthrough.specs.Submit as Submit
-use Rattle.passthrough.specs.Submit.{submit}
+use Rattle.passthrough.specs.Submit.{made, submit}
 use Rattle.passthrough.specs.Complete as Complete
 use Rattle.passthrough.specs.Complete.{complete, isSet}
 use Rattle.passthrough.proofs.Over.{taken-over}
 use Rattle.demands.specs.Promises.{Submission, outcomeOf, numberOf, orderFrom, DirectionFromTheFields, ataCommandAt, withCommand, OnlyTheCommandDiffers, OwnFlags, EndsBy, CompletedWithItsOwnFields, withNothingPending, TakenWhilePending, Protocol15KeepsTheRecord}
 use Rattle.demands.proofs.Refusals.{not-refused}
 
+-- What a function makes of one of two is one of the two that it makes.
+either : {A B : Type 0} (f : A → B) (b : Bool) (x y : A) → cond b (f x) (f y) ≡ f (cond b x y)
+either f true x y = refl
+either f false x y = refl
+
 -- What decides the direction: a reset has none.
-direction-is : (c : List ℕ) (declared : ℕ) → orderOf c declared .direction ≡ cond (reset (protocol c)) 0 (directionOf (protocol c) (tDir c))
+direction-is : (c : List ℕ) (bytes : ℕ) → orderOf c bytes .direction ≡ cond (reset (protocol c)) 0 (directionOf (protocol c) (tDir c))
 unfolding orderOf
-direction-is c declared = sym (either (λ (o : Order). o .direction) (reset (protocol c)) _ _)
+direction-is c bytes = sym (either (λ (o : Order). o .direction) (reset (protocol c)) _ _)
 
 -- A byte elsewhere is kept.
 kept : (c : List ℕ) (i j v : ℕ) → eqb j i ≡ false → getD (set c i v) j 0 ≡ getD c j 0
@@ -37,26 +42,23 @@ kept c i j v h = getD-set-other c i j v 0 (eqb-false _ _ h)
 
 -- Two whole commands that differ in the ATA command alone make orders that differ in the field `command` alone; of resets,
 -- whose orders hold no ATA command, they make the same order.
-module _ (c : List ℕ) (declared v : ℕ) (w : Whole c) where
-  in-form : (b q : Bool) → long c ≡ b → reset (protocol c) ≡ q → orderOf (set c (cond b 14 9) v) declared ≡ cond q (orderOf c declared) (withCommand v (orderOf c declared))
+module _ (c block : List ℕ) (declared edition v : ℕ) (w : Whole c) where
+  in-form : (b d q : Bool) → longest c ≡ b → long c ≡ d → reset (protocol c) ≡ q → made (set c (cond b 25 (cond d 14 9)) v) block declared edition ≡ cond q (made c block declared edition) (withCommand v (made c block declared edition))
   unfolding orderOf lengthOf
-  in-form true true l r = simp (kept, l, r)
-  in-form false true l r = simp (kept, l, r)
-  in-form true false l r =
+  in-form true d true s l r = simp (kept, s, rw s at r)
+  in-form true d false s l r =
+      let h = w .thirty-two s in
+      simp (kept, getD-set-same c 25 v 0 (omega arith), s, rw s at r)
+  in-form false true true s l r = simp (kept, s, l, rw s at r)
+  in-form false false true s l r = simp (kept, s, l, rw s at r)
+  in-form false true false s l r =
       let h = w .sixteen l in
-      simp (kept, getD-set-same c 14 v 0 (omega arith), l, r)
-  in-form false false l r = simp (kept, getD-set-same c 9 v 0 (omega arith), l, r)
-
--- A command that has all its bytes is whole in its form.
-whole : (c : List ℕ) → size c ≤ length c → Whole c
-whole c h = by (long c) refl h
-  where
-    by : (b : Bool) → long c ≡ b → cond b 16 12 ≤ length c → Whole c
-    by true e l = record { short = omega arith; sixteen = λ t. l }
-    by false e l = record { short = l; sixteen = λ t. absurd (true≢false (sym t ∙ e)) }
+      simp (kept, getD-set-same c 14 v 0 (omega arith), s, l, rw s at r)
+  in-form false false false s l r = simp (kept, getD-set-same c 9 v 0 (omega arith), s, l, rw s at r)
 
 pub only-the-command-differs : OnlyTheCommandDiffers
-only-the-command-differs c declared v h = in-form c declared v (whole c h) (long c) (reset (protocol c)) refl refl
+only-the-command-differs c block declared edition v h =
+    in-form c block declared edition v (whole c (le-ltb _ _ h)) (longest c) (long c) (reset (protocol c)) refl refl refl
 
 -- A flag that was put into an order comes out of it.
 flag-is-set : (b : Bool) → isSet (flag b) ≡ b
@@ -65,7 +67,7 @@ flag-is-set false = refl
 
 pub own-flags : OwnFlags
 unfolding orderOf
-own-flags c declared r = rw r (flag-is-set (ckCond c), flag-is-set (extend c))
+own-flags c block declared edition r = rw r (flag-is-set (ckCond c), flag-is-set (extend c))
 
 -- A check that applies, at any place of a list of checks, makes a refusal of the whole.
 here : {b : Bool} (n rest : ℕ) → eqb n 0 ≡ false → b ≡ true → eqb (cond b n rest) 0 ≡ false
@@ -84,18 +86,18 @@ other true n rest h r = h
 other false n rest h r = r
 
 -- Completing a record that an order was taken into goes by that order, by itself or, a reset, over another.
-ends-by : (free : Bool) (p : Pending) (c : List ℕ) (declared : ℕ) (left : List ℕ) (form : ℕ) (room sense : List ℕ) → nothingPending p ≡ free → (free ≡ false → reset (protocol c) ≡ true) → length left ≡ 11 → 22 ≤ length room → EndsBy p left form room (Submit.taken p (orderOf c declared) sense)
+ends-by : (free : Bool) (p : Pending) (c : List ℕ) (bytes : ℕ) (left : List ℕ) (form : ℕ) (room sense : List ℕ) → nothingPending p ≡ free → (free ≡ false → reset (protocol c) ≡ true) → length left ≡ 11 → 22 ≤ length room → EndsBy p left form room (Submit.taken p (orderOf c bytes) sense)
 unfolding complete Complete.refusalOf
-ends-by true p c declared left form room sense n o l r = rw (n, eq-eqb _ _ l, le-ltb _ _ r)
-ends-by false p c declared left form room sense n o l r = rw (n, eq-eqb _ _ l, le-ltb _ _ r)
+ends-by true p c bytes left form room sense n o l r = rw (n, eq-eqb _ _ l, le-ltb _ _ r)
+ends-by false p c bytes left form room sense n o l r = rw (n, eq-eqb _ _ l, le-ltb _ _ r)
 
 -- A command that was not refused is answered, or its order is taken.
 module _ (s : Submission) where
   abbrev refusal : ℕ
-  refusal = Submit.refusalOf (s .record-given) (s .command) (s .registers) (s .declared) (length (s .sense))
+  refusal = Submit.refusalOf (s .record-given) (s .command) (s .registers) (s .block) (s .declared) (s .edition) (length (s .sense))
 
   abbrev accepted : Bool → Submit.Outcome
-  accepted told = cond told (Submit.reported (s .record-given) (s .registers) (s .form) (s .sense)) (Submit.taken (s .record-given) (orderOf (s .command) (s .declared)) (s .sense))
+  accepted told = cond told (Submit.reported (s .record-given) (s .registers) (s .form) (s .sense)) (Submit.taken (s .record-given) (made (s .command) (s .block) (s .declared) (s .edition)) (s .sense))
 
   abbrev refused : ℕ → Submit.Outcome
   refused number = Submit.refused (s .record-given) (s .form) number (s .sense)
@@ -108,7 +110,7 @@ module _ (s : Submission) where
   unfolding submit
   outcome-is e = rw (eq-eqb refusal 0 (zero e))
 
-  taken : numberOf s ≡ 0 → (protocol (s .command) ≡ 15 → ⊥) → outcomeOf s ≡ Submit.taken (s .record-given) (orderOf (s .command) (s .declared)) (s .sense)
+  taken : numberOf s ≡ 0 → (protocol (s .command) ≡ 15 → ⊥) → outcomeOf s ≡ Submit.taken (s .record-given) (made (s .command) (s .block) (s .declared) (s .edition)) (s .sense)
   taken e h = outcome-is e ∙ rw (ne-eqb (protocol (s .command)) 15 h)
 
   direction-of : numberOf s ≡ 0 → orderFrom s .direction ≡ cond (eqb (protocol (s .command)) 15) 0 (cond (reset (protocol (s .command))) 0 (directionOf (protocol (s .command)) (tDir (s .command))))
@@ -116,7 +118,7 @@ module _ (s : Submission) where
     where
       by : (told : Bool) → accepted told .submitted .taken .order .direction ≡ cond told 0 (cond (reset (protocol (s .command))) 0 (directionOf (protocol (s .command)) (tDir (s .command))))
       by true = refl
-      by false = direction-is (s .command) (s .declared)
+      by false = direction-is (s .command) _
 
 pub direction-from-the-fields : DirectionFromTheFields
 direction-from-the-fields s t es et p d = rw (direction-of s es, direction-of t et, p, d)
@@ -124,13 +126,13 @@ direction-from-the-fields s t es et p d = rw (direction-of s es, direction-of t 
 pub completed-with-its-own-fields : CompletedWithItsOwnFields
 completed-with-its-own-fields s e h left form room l r =
     let w = taken s e h in
-    let over : nothingPending (s .record-given) ≡ false → reset (protocol (s .command)) ≡ true = λ n. taken-over (s .record-given) (s .command) (s .registers) (s .declared) (length (s .sense)) (zero s e) (ne-eqb _ _ h) n .0 in
-    (ap (λ (o : Submit.Outcome). o .submitted .taken .order) w, subst (EndsBy (s .record-given) left form room) (sym w) (ends-by (nothingPending (s .record-given)) (s .record-given) (s .command) (s .declared) left form room (s .sense) refl over l r))
+    let over : nothingPending (s .record-given) ≡ false → reset (protocol (s .command)) ≡ true = λ n. taken-over (s .record-given) (s .command) (s .registers) (s .block) (s .declared) (s .edition) (length (s .sense)) (zero s e) (ne-eqb _ _ h) n .0 in
+    (ap (λ (o : Submit.Outcome). o .submitted .taken .order) w, subst (EndsBy (s .record-given) left form room) (sym w) (ends-by (nothingPending (s .record-given)) (s .record-given) (s .command) _ left form room (s .sense) refl over l r))
 
 -- Check 10 in the place that it has.
 busy : (s : Submission) → Checks.waits (not (nothingPending (s .record-given))) (resetPending (s .record-given)) (protocol (s .command)) ≡ true → numberOf s ≡ 0 → ⊥
 unfolding Checks.refusalOf
-busy s t e = eqb-false (refusal s) 0 (search (here, later) depth 9) (zero s e)
+busy s t e = eqb-false (refusal s) 0 (search (here, later) depth 12) (zero s e)
 
 no-other : (s : Submission) → nothingPending (s .record-given) ≡ false → (protocol (s .command) ≡ 15 → ⊥) → reset (protocol (s .command)) ≡ false → numberOf s ≡ 0 → ⊥
 no-other s n h r = busy s (rw (r, n, ne-eqb _ _ h))
@@ -163,7 +165,7 @@ module _ (s : Submission) (p : resetPending (s .record-given) ≡ false) (r : re
   unfolding Checks.refusalOf
   not-busy =
       let g = gets-past in
-      search (other, passed) depth 14
+      search (other, passed) depth 18
 
 pub taken-while-pending : TakenWhilePending
 taken-while-pending =

@@ -70,12 +70,12 @@ of-inquiry q form room sense h =
 abbrev submitNumber : Submit.Outcome → ℕ
 submitNumber o = o .submitted .taken .number
 
-of-submit : (p : Pending) (command registers : List ℕ) (declared form : ℕ) (sense : List ℕ) → Refused (submit p command registers declared form sense .submitted .taken .number) → submit p command registers declared form sense ≡ Submit.refused p form (submit p command registers declared form sense .submitted .taken .number) sense
+of-submit : (p : Pending) (command registers block : List ℕ) (declared edition form : ℕ) (sense : List ℕ) → Refused (submit p command registers block declared edition form sense .submitted .taken .number) → submit p command registers block declared edition form sense ≡ Submit.refused p form (submit p command registers block declared edition form sense .submitted .taken .number) sense
 unfolding submit
-of-submit p command registers declared form sense h =
-    let r = Submit.refusalOf p command registers declared (length sense) in
+of-submit p command registers block declared edition form sense h =
+    let r = Submit.refusalOf p command registers block declared edition (length sense) in
     by-number submitNumber (λ n. Submit.refused p form n sense) _ r (eqb r 0)
-    (either-zero submitNumber (Submit.reported p registers form sense) (Submit.taken p (orderOf command declared) sense) (eqb (protocol command) 15) refl refl) refl h
+    (either-zero submitNumber (Submit.reported p registers form sense) (Submit.taken p (Submit.made command block declared edition) sense) (eqb (protocol command) 15) refl refl) refl h
 
 of-complete : (p : Pending) (registers : List ℕ) (form : ℕ) (sense : List ℕ) → Refused (complete p registers form sense .completed .ended .number) → complete p registers form sense ≡ Complete.refused p form (complete p registers form sense .completed .ended .number) sense
 unfolding complete

@@ -1,3 +1,4 @@
 -- What is promised: the page of promises, and the soundings that it names.
+pub mod FirstEdition
 pub mod Promises
 pub mod Soundings

@@ -31,13 +31,13 @@ use Rattle.inquiry_checks.specs.Request.{Request, request, isPacket}
 use Rattle.inquiry_checks.specs.Checks.{wrongSize}
 use Rattle.inquiry.specs.Inquiry as Inquiry
 use Rattle.inquiry.specs.Inquiry.{inquiry, part}
-use Rattle.passthrough_fields.specs.Fields.{long, size, protocol, tDir, ckCond, extend}
+use Rattle.passthrough_fields.specs.Fields.{long, longest, size, protocol, tDir, ckCond, extend}
 use Rattle.passthrough_order.specs.declared.Order.{Order}
-use Rattle.passthrough_order.specs.Order.{reset, orderOf}
+use Rattle.passthrough_order.specs.Order.{reset, noOrder}
 use Rattle.passthrough.specs.declared.Pending.{Pending}
 use Rattle.passthrough.specs.Record.{empty, nothingPending, resetPending}
 use Rattle.passthrough.specs.Submit as Submit
-use Rattle.passthrough.specs.Submit.{submit}
+use Rattle.passthrough.specs.Submit.{isLater, made, submit}
 use Rattle.passthrough.specs.Complete as Complete
 use Rattle.passthrough.specs.Complete.{complete, endStatus, endSense, isSet}
 use Rattle.passthrough.specs.History as History
@@ -57,6 +57,8 @@ use Rattle.tally.specs.declared.Census.{Census}
 use Rattle.tally.specs.Census as Census
 use Rattle.tally.specs.Census.{closed, feed}
 use Rattle.tally.specs.Fleet.{feedAll, countOf, Countable, countables}
+use Rattle.passthrough_checks.specs.Checks as PassChecks
+use Rattle.demands.specs.FirstEdition as FirstEdition
 use Rattle.demands.specs.Soundings.{SoundingsHold}
 
 -- A number that came back is a refusal's.
@@ -72,7 +74,7 @@ Settled {O} outcome = (a b : O) → a ≡ outcome → b ≡ outcome → a ≡ b
 pub record OneOutcome : Type 0 where
   pub of-inquiry : (q : Request) (form : ℕ) (room sense : List ℕ) → Settled (inquiry q form room sense)
   pub of-served : (reply room : List ℕ) (shown count : ℕ) → Settled (part reply room shown count)
-  pub of-submit : (p : Pending) (command registers : List ℕ) (declared form : ℕ) (sense : List ℕ) → Settled (submit p command registers declared form sense)
+  pub of-submit : (p : Pending) (command registers block : List ℕ) (declared edition form : ℕ) (sense : List ℕ) → Settled (submit p command registers block declared edition form sense)
   pub of-complete : (p : Pending) (registers : List ℕ) (form : ℕ) (sense : List ℕ) → Settled (complete p registers form sense)
   pub of-write : (block : List ℕ) (ports : Ports) (address room : List ℕ) → Settled (write block ports address room)
   pub of-read : (page : List ℕ) → Settled (read page)
@@ -90,7 +92,7 @@ pub record OneOutcome : Type 0 where
 -- that refuses is the one that its number alone decides.
 pub record RefusalsChangeNothing : Type 0 where
   pub of-inquiry : (q : Request) (form : ℕ) (room sense : List ℕ) → Refused (inquiry q form room sense .answer .number) → inquiry q form room sense ≡ Inquiry.refused form (inquiry q form room sense .answer .number) room sense
-  pub of-submit : (p : Pending) (command registers : List ℕ) (declared form : ℕ) (sense : List ℕ) → Refused (submit p command registers declared form sense .submitted .taken .number) → submit p command registers declared form sense ≡ Submit.refused p form (submit p command registers declared form sense .submitted .taken .number) sense
+  pub of-submit : (p : Pending) (command registers block : List ℕ) (declared edition form : ℕ) (sense : List ℕ) → Refused (submit p command registers block declared edition form sense .submitted .taken .number) → submit p command registers block declared edition form sense ≡ Submit.refused p form (submit p command registers block declared edition form sense .submitted .taken .number) sense
   pub of-complete : (p : Pending) (registers : List ℕ) (form : ℕ) (sense : List ℕ) → Refused (complete p registers form sense .completed .ended .number) → complete p registers form sense ≡ Complete.refused p form (complete p registers form sense .completed .ended .number) sense
   pub of-write : (block : List ℕ) (ports : Ports) (address room : List ℕ) → Refused (write block ports address room .written .number) → write block ports address room ≡ Page83.outcome (record { number = write block ports address room .written .number; count = 0 }) room
   pub of-read : (page : List ℕ) → Refused (read page .number) → read page ≡ Reader.refused
@@ -118,6 +120,7 @@ pub record RollSized (bytes : List ℕ) (entries : ℕ) : Type 0 where
 -- Where no size is wrong, a damaged block is refused with 18 and no status whatever else is asked, and nothing lent changes.
 pub record DamagedIsRefused : Type 0 where
   pub of-inquiry : (q : Request) (form : ℕ) (room sense : List ℕ) → wrongSize (q .block) (q .signature) (q .texts) (q .ports) (q .address) (length sense) ≡ false → damaged (q .block) ≡ true → inquiry q form room sense ≡ Inquiry.outcome (record { number = 18; status = noStatus; shown = 1; count = 0 }) room sense
+  pub of-submit : (p : Pending) (command registers block : List ℕ) (declared edition form : ℕ) (sense : List ℕ) → isLater edition ≡ true → PassChecks.wrongSize (length registers) (length sense) ≡ false → damaged block ≡ true → submit p command registers block declared edition form sense ≡ Submit.outcome (Submit.answer p 18 noStatus noOrder) sense
   pub of-write : (block : List ℕ) (ports : Ports) (address room : List ℕ) → wrongAddress ports address ≡ false → damaged block ≡ true → write block ports address room ≡ Page83.outcome (record { number = 18; count = 0 }) room
   pub of-roll : (bytes room : List ℕ) → RollSized bytes (length room) → SomeDamaged bytes → roll bytes room ≡ Roll.outcome (record { number = 18; blocks = 0; drives = 0 }) room
   pub of-gather : (haves stores room : List ℕ) → wrongRun haves (length stores) ≡ false → SomeDamaged (gathered haves stores) → gatherOf haves stores room ≡ Received.gatherOutcome (Received.given 18 0) room
@@ -156,12 +159,14 @@ pub record Submission : Type 0 where
   pub record-given : Pending
   pub command : List ℕ
   pub registers : List ℕ
+  pub block : List ℕ
   pub declared : ℕ
+  pub edition : ℕ
   pub form : ℕ
   pub sense : List ℕ
 
 abbrev pub outcomeOf : Submission → Submit.Outcome
-outcomeOf s = submit (s .record-given) (s .command) (s .registers) (s .declared) (s .form) (s .sense)
+outcomeOf s = submit (s .record-given) (s .command) (s .registers) (s .block) (s .declared) (s .edition) (s .form) (s .sense)
 
 abbrev pub numberOf : Submission → ℕ
 numberOf s = outcomeOf s .submitted .taken .number
@@ -173,15 +178,16 @@ orderFrom s = outcomeOf s .submitted .taken .order
 abbrev pub DirectionFromTheFields : Type 0
 DirectionFromTheFields = (s t : Submission) → numberOf s ≡ 0 → numberOf t ≡ 0 → protocol (s .command) ≡ protocol (t .command) → tDir (s .command) ≡ tDir (t .command) → orderFrom s .direction ≡ orderFrom t .direction
 
--- The place of the ATA command: byte 14 of the long form, 9 of the short.
+-- The place of the ATA command: byte 25 of the longest form, 14 of the long, 9 of the short.
 abbrev pub ataCommandAt : List ℕ → ℕ
-ataCommandAt c = cond (long c) 14 9
+ataCommandAt c = cond (longest c) 25 (cond (long c) 14 9)
 
 -- An order with another ATA command, and all else as it was.
 abbrev pub withCommand : ℕ → Order → Order
 withCommand v o =
     record {
       length = o .length;
+      auxiliary = o .auxiliary;
       features = o .features;
       count = o .count;
       «lba_low» = o .«lba_low»;
@@ -200,11 +206,16 @@ withCommand v o =
 -- Two whole commands that differ in the ATA command alone make orders that differ in the field `command` alone; resets, whose
 -- orders hold no ATA command, make the same order.
 abbrev pub OnlyTheCommandDiffers : Type 0
-OnlyTheCommandDiffers = (c : List ℕ) (declared v : ℕ) → size c ≤ length c → orderOf (set c (ataCommandAt c) v) declared ≡ cond (reset (protocol c)) (orderOf c declared) (withCommand v (orderOf c declared))
+OnlyTheCommandDiffers = (c block : List ℕ) (declared edition v : ℕ) → size c ≤ length c → made (set c (ataCommandAt c) v) block declared edition ≡ cond (reset (protocol c)) (made c block declared edition) (withCommand v (made c block declared edition))
+
+-- In the first edition, which every number but the later's names, and whatever block is lent, a command is read and answered as it was
+-- before there was a later one (specs/FirstEdition), to the byte and for every input.
+abbrev pub FirstEditionStays : Type 0
+FirstEditionStays = (p : Pending) (command registers block : List ℕ) (declared edition form : ℕ) (sense : List ℕ) → isLater edition ≡ false → submit p command registers block declared edition form sense ≡ FirstEdition.submit p command registers declared form sense
 
 -- CK_COND and EXTEND of an order are the command's own.
 abbrev pub OwnFlags : Type 0
-OwnFlags = (c : List ℕ) (declared : ℕ) → reset (protocol c) ≡ false → (isSet (orderOf c declared .«ck_cond») ≡ ckCond c) × (isSet (orderOf c declared .extend) ≡ extend c)
+OwnFlags = (c block : List ℕ) (declared edition : ℕ) → reset (protocol c) ≡ false → (isSet (made c block declared edition .«ck_cond») ≡ ckCond c) × (isSet (made c block declared edition .extend) ≡ extend c)
 
 -- Completing what an outcome leaves tells the status and the sense data that the order which it answered says, leaves the empty
 -- record, and reports as lost what was pending before: nothing, or an order by its protocol.
@@ -218,11 +229,11 @@ EndsBy before left form room o =
 -- No order is faked: one that was taken is the order that its command makes, and is completed with its own fields, from every state
 -- of the record.
 abbrev pub CompletedWithItsOwnFields : Type 0
-CompletedWithItsOwnFields = (s : Submission) → numberOf s ≡ 0 → (protocol (s .command) ≡ 15 → ⊥) → (left : List ℕ) (form : ℕ) (room : List ℕ) → length left ≡ 11 → 22 ≤ length room → (orderFrom s ≡ orderOf (s .command) (s .declared)) × EndsBy (s .record-given) left form room (outcomeOf s)
+CompletedWithItsOwnFields = (s : Submission) → numberOf s ≡ 0 → (protocol (s .command) ≡ 15 → ⊥) → (left : List ℕ) (form : ℕ) (room : List ℕ) → length left ≡ 11 → 22 ≤ length room → (orderFrom s ≡ made (s .command) (s .block) (s .declared) (s .edition)) × EndsBy (s .record-given) left form room (outcomeOf s)
 
 -- The same submission with nothing pending.
 abbrev pub withNothingPending : Submission → Submission
-withNothingPending s = record { record-given = empty; command = s .command; registers = s .registers; declared = s .declared; form = s .form; sense = s .sense }
+withNothingPending s = record { record-given = empty; command = s .command; registers = s .registers; block = s .block; declared = s .declared; edition = s .edition; form = s .form; sense = s .sense }
 
 pub record TakenWhilePending : Type 0 where
   -- While anything is pending only a reset is taken,
@@ -267,14 +278,14 @@ pub record ToldAlike (status : ℕ) (lent left other-left : List ℕ) : Type 0 w
 pub record FormsAgree : Type 0 where
   pub of-sense-data : (key asc ascq : ℕ) (told : Told) → inFixed (fixedSense key asc ascq told) ≡ inDescriptor (descriptorSense key asc ascq told)
   pub of-inquiry : (q : Request) (form other : ℕ) (room sense : List ℕ) → isFixed form ≡ true → isFixed other ≡ false → ToldAlike (inquiry q form room sense .answer .status) sense (inquiry q form room sense .sense) (inquiry q other room sense .sense)
-  pub of-submit : (p : Pending) (command registers : List ℕ) (declared form other : ℕ) (sense : List ℕ) → isFixed form ≡ true → isFixed other ≡ false → ToldAlike (submit p command registers declared form sense .submitted .taken .status) sense (submit p command registers declared form sense .sense) (submit p command registers declared other sense .sense)
+  pub of-submit : (p : Pending) (command registers block : List ℕ) (declared edition form other : ℕ) (sense : List ℕ) → isFixed form ≡ true → isFixed other ≡ false → ToldAlike (submit p command registers block declared edition form sense .submitted .taken .status) sense (submit p command registers block declared edition form sense .sense) (submit p command registers block declared edition other sense .sense)
   pub of-complete : (p : Pending) (registers : List ℕ) (form other : ℕ) (sense : List ℕ) → isFixed form ≡ true → isFixed other ≡ false → ToldAlike (complete p registers form sense .completed .ended .status) sense (complete p registers form sense .sense) (complete p registers other sense .sense)
   pub of-inquiry-from-intake : (have : ℕ) (store command signature texts reply : List ℕ) (ports : Ports) (address : List ℕ) (form other : ℕ) (room sense : List ℕ) → isFixed form ≡ true → isFixed other ≡ false → ToldAlike (inquiryOf have store command signature texts reply ports address form room sense .answer .status) sense (inquiryOf have store command signature texts reply ports address form room sense .sense) (inquiryOf have store command signature texts reply ports address other room sense .sense)
 
 -- And nothing else of a call hangs on the form: number, status, what is shown, order, record and room are the same in any two.
 pub record FormChangesOnlySense : Type 0 where
   pub of-inquiry : (q : Request) (form other : ℕ) (room sense : List ℕ) → (inquiry q form room sense .answer ≡ inquiry q other room sense .answer) × (inquiry q form room sense .room ≡ inquiry q other room sense .room)
-  pub of-submit : (p : Pending) (command registers : List ℕ) (declared form other : ℕ) (sense : List ℕ) → submit p command registers declared form sense .submitted ≡ submit p command registers declared other sense .submitted
+  pub of-submit : (p : Pending) (command registers block : List ℕ) (declared edition form other : ℕ) (sense : List ℕ) → submit p command registers block declared edition form sense .submitted ≡ submit p command registers block declared edition other sense .submitted
   pub of-complete : (p : Pending) (registers : List ℕ) (form other : ℕ) (sense : List ℕ) → complete p registers form sense .completed ≡ complete p registers other sense .completed
   pub of-inquiry-from-intake : (have : ℕ) (store command signature texts reply : List ℕ) (ports : Ports) (address : List ℕ) (form other : ℕ) (room sense : List ℕ) → (inquiryOf have store command signature texts reply ports address form room sense .answer ≡ inquiryOf have store command signature texts reply ports address other room sense .answer) × (inquiryOf have store command signature texts reply ports address form room sense .room ≡ inquiryOf have store command signature texts reply ports address other room sense .room)
 
@@ -283,7 +294,7 @@ pub record UsualForm : Type 0 where
   pub of-fixed : (key asc ascq : ℕ) (told : Told) → senseData fixed key asc ascq told ≡ fixedSense key asc ascq told
   pub of-descriptor : (key asc ascq : ℕ) (told : Told) → senseData descriptor key asc ascq told ≡ descriptorSense key asc ascq told
   pub of-inquiry : (q : Request) (room sense : List ℕ) → inquiry q unstated room sense ≡ inquiry q fixed room sense
-  pub of-submit : (p : Pending) (command registers : List ℕ) (declared : ℕ) (sense : List ℕ) → submit p command registers declared unstated sense ≡ submit p command registers declared fixed sense
+  pub of-submit : (p : Pending) (command registers block : List ℕ) (declared edition : ℕ) (sense : List ℕ) → submit p command registers block declared edition unstated sense ≡ submit p command registers block declared edition fixed sense
   pub of-complete : (p : Pending) (registers sense : List ℕ) → complete p registers unstated sense ≡ complete p registers fixed sense
   pub of-inquiry-from-intake : (have : ℕ) (store command signature texts reply : List ℕ) (ports : Ports) (address room sense : List ℕ) → inquiryOf have store command signature texts reply ports address unstated room sense ≡ inquiryOf have store command signature texts reply ports address fixed room sense
 
@@ -490,6 +501,7 @@ pub record Promises : Type 0 where
   pub soundings-hold : SoundingsHold
   pub direction-from-the-fields : DirectionFromTheFields
   pub only-the-command-differs : OnlyTheCommandDiffers
+  pub first-edition-stays : FirstEditionStays
   pub own-flags : OwnFlags
   pub completed-with-its-own-fields : CompletedWithItsOwnFields
   pub taken-while-pending : TakenWhilePending

@@ -47,12 +47,12 @@ abbrev pub registers : List ℕ
 registers = 0x00 ∷ 0x00 ∷ 0xFF ∷ 0x00 ∷ 0x00 ∷ 0x00 ∷ 0x00 ∷ 0x00 ∷ 0x00 ∷ 0x00 ∷ 0x50 ∷ []
 
 abbrev pub send : List ℕ → ℕ → Submission
-send command declared = submit empty command registers declared descriptor senseRoom
+send command declared = submit empty command registers [] declared 0 descriptor senseRoom
 
 -- Every field of an order.
 abbrev pub fields : Order → List ℕ
 fields o =
-    o .length ∷ o .features ∷ o .count ∷ o .«lba_low» ∷ o .«lba_mid» ∷ o .«lba_high» ∷ o .«quiet_seconds» ∷ o .«sectors_per_block»
+    o .length ∷ o .auxiliary ∷ o .features ∷ o .count ∷ o .«lba_low» ∷ o .«lba_mid» ∷ o .«lba_high» ∷ o .«quiet_seconds» ∷ o .«sectors_per_block»
     ∷ o .device ∷ o .command ∷ o .protocol ∷ o .«ck_cond» ∷ o .extend ∷ o .direction ∷ []
 
 -- An order taken: direction and length, no status yet, the record filled with it, no sense byte.

@@ -54,10 +54,10 @@ module _ (pending : Pending) (registers : List ℕ) where
   refused-as : (n : ℕ) → eqb n 0 ≡ false → told n (rowOf n .status) (refusedSense descriptor n noSense) ≡ valuesOf (Refused n) → refusal pending registers ≡ n → valuesOf (asked pending registers .said) ≡ given pending registers
   unfolding submit asked given
   refused-as n z t e =
-      let s : submit pending returnStatus registers 0 descriptor noSense ≡ Submit.refused pending descriptor n noSense = rw (e, z) in
+      let s : submit pending returnStatus registers [] 0 1 descriptor noSense ≡ Submit.refused pending descriptor n noSense = rw (e, z) in
       rw (s, z) (sym t)
 
-  taken-as : eqb (length registers) 11 ≡ true → eqb (pending .state) 0 ≡ true → submit pending returnStatus registers 0 descriptor noSense ≡ Submit.taken empty (orderOf returnStatus 0) noSense
+  taken-as : eqb (length registers) 11 ≡ true → eqb (pending .state) 0 ≡ true → submit pending returnStatus registers [] 0 1 descriptor noSense ≡ Submit.taken empty (orderOf returnStatus 0) noSense
   unfolding submit
   taken-as s f = rw (number-0 s f, f)
 

@@ -42,7 +42,7 @@ submittedAs registers o =
     (answer (o .submitted .next) (Refused (o .submitted .taken .number)))
 
 unfoldable pub asked : Pending → List ℕ → Asked
-asked pending registers = submittedAs registers (submit pending returnStatus registers 0 descriptor noSense)
+asked pending registers = submittedAs registers (submit pending returnStatus registers [] 0 1 descriptor noSense)
 
 -- The board's answer by the sense data that it wrote: byte 1 is the key, and with key 0Bh byte 11 the error register.
 abbrev pub told : ℕ → ℕ → List ℕ → Values
@@ -58,4 +58,4 @@ givenFor registers o =
     (told (o .submitted .taken .number) (o .submitted .taken .status) (o .sense))
 
 unfoldable pub given : Pending → List ℕ → Values
-given pending registers = givenFor registers (submit pending returnStatus registers 0 descriptor noSense)
+given pending registers = givenFor registers (submit pending returnStatus registers [] 0 1 descriptor noSense)

@@ -118,7 +118,9 @@ fn ask(pending: Pending, registers: &[u8]) -> Asked
     let submitted = pending.submit(
         &return_status(),
         registers,
+        &registers[..0],
         0,
+        passthrough::FIRST,
         sense::DESCRIPTOR,
         &mut sense,
     );
