@@ -3,7 +3,7 @@ use mathlib.Core.Path.{_≡_, sym, _∙_}
 use Rattle.identify.proofs.Words.{same-drive-by-words}
 use Rattle.demands.specs.Promises.{Settled, OneOutcome, Promises}
 use Rattle.demands.proofs.Refusals.{refusals-change-nothing}
-use Rattle.demands.proofs.Soundings.{soundings-hold}
+use Rattle.demands.proofs.Soundings.{soundings-hold, later-soundings-hold}
 use Rattle.demands.proofs.Inquiry.{within-allocation, cut-again, pages-of-inquiry}
 use Rattle.demands.proofs.Order.{direction-from-the-fields, only-the-command-differs, own-flags, completed-with-its-own-fields, taken-while-pending, protocol-15-keeps-the-record}
 use Rattle.demands.proofs.FirstEdition.{first-edition-stays}
@@ -45,6 +45,7 @@ kept =
       within-allocation = within-allocation;
       cut-again = cut-again;
       soundings-hold = soundings-hold;
+      later-soundings-hold = later-soundings-hold;
       direction-from-the-fields = direction-from-the-fields;
       only-the-command-differs = only-the-command-differs;
       first-edition-stays = first-edition-stays;

@@ -59,7 +59,7 @@ use Rattle.tally.specs.Census.{closed, feed}
 use Rattle.tally.specs.Fleet.{feedAll, countOf, Countable, countables}
 use Rattle.passthrough_checks.specs.Checks as PassChecks
 use Rattle.demands.specs.FirstEdition as FirstEdition
-use Rattle.demands.specs.Soundings.{SoundingsHold}
+use Rattle.demands.specs.Soundings.{SoundingsHold, LaterSoundingsHold}
 
 -- A number that came back is a refusal's.
 abbrev pub Refused : ℕ → Type 0
@@ -150,7 +150,7 @@ CutAgain = (q : Request) (a b form other-form : ℕ) (room sense other-room othe
 
 -- ## Demand 2: worked cases
 
--- `SoundingsHold` in specs/Soundings: C1 to C13 hold of the rules.
+-- `SoundingsHold` in specs/Soundings: C1 to C13 hold of the rules; `LaterSoundingsHold`: cases of the later edition do.
 
 -- ## Demand 2: orders
 
@@ -499,6 +499,7 @@ pub record Promises : Type 0 where
   pub within-allocation : WithinAllocation
   pub cut-again : CutAgain
   pub soundings-hold : SoundingsHold
+  pub later-soundings-hold : LaterSoundingsHold
   pub direction-from-the-fields : DirectionFromTheFields
   pub only-the-command-differs : OnlyTheCommandDiffers
   pub first-edition-stays : FirstEditionStays

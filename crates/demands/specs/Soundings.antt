@@ -93,6 +93,33 @@ identify b1 b2 count = 0xA1 ∷ b1 ∷ b2 ∷ 0x00 ∷ count ∷ 0x00 ∷ 0x00 �
 abbrev pub checkPower : List ℕ
 checkPower = 0x85 ∷ 0x06 ∷ 0x20 ∷ replicate 11 0x00 ++ (0xE5 ∷ 0x00 ∷ [])
 
+-- A block that tells the size of its sectors: word 106 is 5000h, and words 117 and 118 have these bytes.
+abbrev pub telling : List ℕ → List ℕ
+telling bytes = replicate 212 0x00 ++ (0x00 ∷ 0x50 ∷ []) ++ replicate 20 0x00 ++ bytes ++ replicate 274 0x00
+
+-- A command in the later edition, and the 32-byte one: IDENTIFY DEVICE, with an auxiliary number.
+abbrev pub sendLater : List ℕ → List ℕ → ℕ → Submission
+sendLater block command declared = submit empty command registers block declared 2 descriptor senseRoom
+
+abbrev pub identify32 : List ℕ
+identify32 =
+    (0x7F ∷ replicate 6 0x00)
+    ++ (0x18 ∷ 0x1F ∷ 0xF0 ∷ 0x08 ∷ 0x0E ∷ replicate 11 0x00)
+    ++ (0x01 ∷ 0x00 ∷ 0xEC ∷ 0x00 ∷ 0x00 ∷ 0x01 ∷ 0x02 ∷ 0x03 ∷ 0x04 ∷ [])
+
+-- The later edition: sectors of 4,096 bytes; the largest product; no block to tell the size; and the 32-byte command, which the first
+-- edition does not know.
+abbrev pub laterSoundings : List Bool
+laterSoundings =
+    takes 1 32768 (sendLater (telling (0x00 ∷ 0x08 ∷ 0x00 ∷ 0x00 ∷ [])) (identify 0x08 0x1E 0x08) 32768)
+    ∷ refuses 14 (sendLater (telling (0x00 ∷ 0x08 ∷ 0x00 ∷ 0x00 ∷ [])) (identify 0x08 0x1E 0x08) 32767)
+    ∷ refuses 14 (sendLater (telling (0xFF ∷ 0xFF ∷ 0xFF ∷ 0xFF ∷ [])) (0x85 ∷ 0x09 ∷ 0x1E ∷ 0x00 ∷ 0x00 ∷ 0xFF ∷ 0xFF ∷ replicate 9 0x00) 0xFFFFFFFF)
+    ∷ refuses 6 (sendLater [] (identify 0x08 0x1E 0x08) 32768)
+    ∷ takes 1 512 (sendLater [] identify32 512)
+    ∷ eqb (sendLater [] identify32 512 .submitted .taken .order .auxiliary) 0x01020304
+    ∷ refuses 3 (send identify32 512)
+    ∷ []
+
 abbrev pub soundings : List Bool
 soundings =
     -- C1 `12 01 83 00 FF 00`
@@ -134,3 +161,6 @@ allTrue (b ∷ bs) = b && allTrue bs
 
 abbrev pub SoundingsHold : Type 0
 SoundingsHold = allTrue soundings ≡ true
+
+abbrev pub LaterSoundingsHold : Type 0
+LaterSoundingsHold = allTrue laterSoundings ≡ true

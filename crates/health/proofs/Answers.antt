@@ -1,7 +1,7 @@
 -- What a drive's answer stands for is what the board gave, and by which registers it is given.
 use mathlib.Core.Path.{_≡_, refl, sym, ap, _∙_}
 use mathlib.Core.Bool.{Bool, true, false, cond, _&&_}
-use mathlib.Core.List.{List}
+use mathlib.Core.List.{List, []}
 use Prim.Native.Nat.{ℕ}
 use lib.Dec.{eqb}
 use lib.ListN.{length, getD}
@@ -35,7 +35,7 @@ verdict-values mid high = by (eqb mid 0x4F && eqb high 0xC2) (eqb mid 0xF4 && eq
 
 -- The number of the command's refusal.
 abbrev refusal : Pending → List ℕ → ℕ
-refusal pending registers = Submit.refusalOf pending returnStatus registers 0 (length noSense)
+refusal pending registers = Submit.refusalOf pending returnStatus registers [] 0 1 (length noSense)
 
 -- The command as the board takes it: refused for the registers' size, or while an order is pending, else taken.
 module _ (pending : Pending) (registers : List ℕ) where
@@ -58,7 +58,7 @@ module _ (pending : Pending) (registers : List ℕ) where
       rw (s, z) (sym t)
 
   taken-as : eqb (length registers) 11 ≡ true → eqb (pending .state) 0 ≡ true → submit pending returnStatus registers [] 0 1 descriptor noSense ≡ Submit.taken empty (orderOf returnStatus 0) noSense
-  unfolding submit
+  unfolding submit lengthOf
   taken-as s f = rw (number-0 s f, f)
 
 -- The order as it ends with all its registers, with an error or without: the record is empty, and the sense data tell them.

@@ -15,6 +15,9 @@ slice-aggregate-submit c = search needs
 slice-aggregate-submit-2 : tie.Need-slice-aggregate-submit-2
 slice-aggregate-submit-2 c = search needs
 
+slice-aggregate-submit-3 : tie.Need-slice-aggregate-submit-3
+slice-aggregate-submit-3 c = search needs
+
 submit-requires : tie.Need-submit-requires
 submit-requires c κs = search needs
 
@@ -40,6 +43,7 @@ ask-spec =
     return-status-requires
     slice-aggregate-submit
     slice-aggregate-submit-2
+    slice-aggregate-submit-3
     submit-requires
     returns
     end-requires
