@@ -25,7 +25,7 @@ returns : tie.Need-returns
 unfolding asked
 returns c =
     let w = c .before .before .before in
-    as-promised _ _ (rw (← w .before .before .before .return-status .ensures, ← w .submit .ensures, ne-eqb _ _ (c .if1 .taken)))
+    as-promised _ _ (rw (← w .before .before .before .before .return-status .ensures, ← w .submit .ensures, ne-eqb _ _ (c .if1 .taken)))
 
 end-requires : tie.Need-end-requires
 end-requires c κs = search needs
@@ -34,7 +34,7 @@ returns-2 : tie.Need-returns-2
 unfolding asked
 returns-2 c =
     let w = c .before .before .before .before in
-    as-promised _ _ (rw (← w .before .before .before .return-status .ensures, ← w .submit .ensures, eq-eqb _ _ (c .before .if1 .left)) (c .end .ensures))
+    as-promised _ _ (rw (← w .before .before .before .before .return-status .ensures, ← w .submit .ensures, eq-eqb _ _ (c .before .if1 .left)) (c .end .ensures))
 
 pub ask-spec : {M : Type 1} → statement M
 ask-spec =
