@@ -82,9 +82,7 @@ pub extern "C" fn piongseut_submit(
     ensures { λ r. ⌜ submitOutcome (record { next = now (state .exit); taken = r }) (now (sense .exit)) ≡ submitRule (now (state .entry)) (now (command .entry)) (now (registers .entry)) (now (block .entry)) declared edition form (now (sense .entry)) ⌝ }
 {
     let p = *state;
-    let submitted = p.submit(
-        command, registers, block, declared, edition, form, sense,
-    );
+    let submitted = p.submit(command, registers, block, declared, edition, form, sense);
     if submitted.next.state != p.state {
         *state = submitted.next;
     }

@@ -109,8 +109,7 @@ returns-3 c =
 
 order-requires : tie.Need-order-requires
 order-requires c κs =
-    let p = c .before .before .before .before .before .before .before .protocol .ensures in
-    (
+    let p = c .before .before .before .before .before .before .before .protocol .ensures in (
       whole-command (c .before .before .before .before .before .before .before .before),
       c .before .before .before .before .read .ensures,
       λ r. rw (c .before .before .in-bytes .ensures, c .before .before .before .block-size .ensures .0) (length-fits _ _ _ _ _ _ (c .before .before .before .before .before .before .before .before .before .before .before .before .before .before .before .before .args .declared) _ (none-early (c .before .before .before .before .before .before .before .before)) (sym (late-is (c .before)) ∙ c .if3 .left) (rw p at (ne-eqb _ _ (c .before .before .before .before .before .before .if2 .left))) (c .before .before .before .before .before .before .before .before .before .before .before .before .before .before .before .before .fits .declared .fits) r),

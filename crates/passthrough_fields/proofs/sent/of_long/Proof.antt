@@ -59,7 +59,6 @@ shared-slice-read-t31 c = search needs
 
 returns : tie.Need-returns
 returns c =
-
     let p = c .before .before .before .before .before .before .before .before .before .before .before .before .before .before .before .before .before .before .before .pre in
     rw (c .before .before .before .before .before .before .before .before .before .before .before .before .before .before .number .ensures, c .before .before .before .before .before .before .before .before .before .before .before .number2 .ensures, c .before .before .before .before .before .before .before .before .number3 .ensures, c .before .before .before .before .before .number4 .ensures, c .before .before .number5 .ensures, c .before .before .before .before .before .before .before .before .before .before .before .before .before .before .before .before .before .extend .ensures, p .2, p .3)
 

@@ -9,7 +9,6 @@ longest-requires c κs = search needs
 
 of-longest-requires : tie.Need-of-longest-requires
 of-longest-requires c κs =
-
     let t = sym (c .before .longest .ensures) ∙ c .if1 .taken in
     (c .before .before .before .pre, c .before .before .before .pre .thirty-two t, t)
 
@@ -21,7 +20,6 @@ long-requires c κs = search needs
 
 of-long-requires : tie.Need-of-long-requires
 of-long-requires c κs =
-
     let t = sym (c .before .before .before .longest .ensures) ∙ c .before .before .if1 .left in
     let u = sym (c .before .long .ensures) ∙ c .if2 .taken in
     (c .before .before .before .before .before .pre, c .before .before .before .before .before .pre .sixteen u, t, u)
