@@ -5,10 +5,10 @@
  *
  * A batch:   u32 bytes that follow, then calls.
  * A call:    u32 bytes that follow; u8 function (bit 7: with the record that the last call left, not the one sent);
- *            u32 declared; u8 form; the record, 52 bytes; the intake, 4 bytes; the ports, 4 bytes; u8 number of pieces;
+ *            u32 declared; u8 form; u8 edition; the record, 60 bytes; the intake, 4 bytes; the ports, 4 bytes; u8 number of pieces;
  *            a piece: u32 size, its bytes.
  * An answer: u32 bytes that follow; u8 function; u8 guard (0: untouched); the fields of what came back, in the header's order;
- *            the record, 52 bytes; the bytes of every piece, the const ones too.
+ *            the record, 60 bytes; the bytes of every piece, the const ones too.
  * INTAKE_INQUIRY and INTAKE_ROLL are two functions each, one after the other, as a C program uses them: the second is lent what
  * the first one counted. Where the first refuses, the second is not called, and its answer is one that has nothing. The census
  * that is fed is a piece, its 26 numbers in the header's order, and goes to the function by value.
@@ -28,7 +28,7 @@ enum { RECORD_EMPTY, INQUIRY, SUBMIT, COMPLETE, WRITE, READ, ROLL, INTAKE_EMPTY,
 #define RECORD_GUARD 255
 #define BATCH_MOST (4u << 20)
 
-static const unsigned pieces_of[FUNCTIONS] = {0, 8, 3, 2, 3, 1, 2, 0, 2, 8, 4, 0, 2};
+static const unsigned pieces_of[FUNCTIONS] = {0, 8, 4, 2, 3, 1, 2, 0, 2, 8, 4, 0, 2};
 
 static uint8_t batch[BATCH_MOST];
 static uint8_t answers[4 * BATCH_MOST];
@@ -48,7 +48,7 @@ static struct {
 
 static piongseut_intake intake;
 static piongseut_ports ports;
-static uint8_t form;
+static uint8_t form, edition;
 static const uint8_t *in;
 static const uint8_t *in_end;
 static uint8_t *out;
@@ -75,6 +75,7 @@ static uint64_t take(unsigned bytes)
 static void take_order(piongseut_order *order)
 {
     order->length = (uint32_t)take(4);
+    order->auxiliary = (uint32_t)take(4);
     order->features = (uint16_t)take(2);
     order->count = (uint16_t)take(2);
     order->lba_low = (uint16_t)take(2);
@@ -167,6 +168,7 @@ static void put(uint64_t number, unsigned bytes)
 static void put_order(const piongseut_order *order)
 {
     put(order->length, 4);
+    put(order->auxiliary, 4);
     put(order->features, 2);
     put(order->count, 2);
     put(order->lba_low, 2);
@@ -282,7 +284,7 @@ static void call_inquiry(void)
 static void call_submit(uint32_t declared)
 {
     piongseut_submit_answer answer;
-    CALL(SUBMIT, answer = piongseut_submit(&kept.record, LENT(0), LENT(1), declared, form, LENT(2)));
+    CALL(SUBMIT, answer = piongseut_submit(&kept.record, LENT(0), LENT(1), LENT(2), declared, edition, form, LENT(3)));
     put(answer.number, 1);
     put(answer.status, 1);
     put_order(&answer.order);
@@ -471,6 +473,7 @@ static void serve(void)
         die("no such function");
     uint32_t declared = (uint32_t)take(4);
     form = (uint8_t)take(1);
+    edition = (uint8_t)take(1);
     take_record(first & 0x80);
     take_intake();
     take_ports();

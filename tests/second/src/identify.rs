@@ -83,6 +83,52 @@ fn spoilt_says(block: &[u8], says: bool) -> bool {
     says || taken_too
 }
 
+/// The bytes of a logical sector: twice the number in words 117 and 118, where
+/// word 106 counts and says so (RULES 5), which takes 33 bits; else 512.
+pub fn sector_size(block: &[u8]) -> u64 {
+    if !says_its_sector_size(word(block, 106)) {
+        return 512;
+    }
+    let (mut low, mut high) = (word(block, 117), word(block, 118));
+    if fault::planted("sector-words-exchanged") {
+        std::mem::swap(&mut low, &mut high);
+    }
+    if fault::planted("sector-size-of-word-117-alone") {
+        high = 0;
+    }
+    let in_words = u64::from(high) << 16 | u64::from(low);
+    spoilt_size(in_words, 2 * in_words)
+}
+
+/// Word 106: bits 15:14 as 01b tell that the word counts, and bit 12 of it that
+/// a sector has more than 256 words.
+fn says_its_sector_size(said: u16) -> bool {
+    let counts = match said >> 14 {
+        0b00 => fault::planted("sector-word-valid-by-00b"),
+        0b01 => true,
+        0b10 => fault::planted("sector-word-valid-by-10b"),
+        _ => fault::planted("sector-word-valid-by-11b"),
+    };
+    let asks = !fault::planted("sector-without-bits-15-14");
+    let bit = match () {
+        _ if fault::planted("sector-without-bit-12") => 0,
+        _ if fault::planted("sector-by-bit-13") => 13,
+        _ => 12,
+    };
+    (counts || !asks) && (bit == 0 || said >> bit & 1 == 1)
+}
+
+/// The planted faults of the number itself.
+fn spoilt_size(in_words: u64, size: u64) -> u64 {
+    match () {
+        _ if fault::planted("sector-size-not-doubled") => in_words,
+        _ if fault::planted("sector-size-of-32-bits") => size & 0xFFFF_FFFF,
+        _ if fault::planted("sector-size-0-is-512") && size == 0 => 512,
+        _ if fault::planted("sector-size-at-least-512") && size < 512 => 512,
+        _ => size,
+    }
+}
+
 /// Whether a cable changed the block: a drive that puts A5h into its byte 510
 /// makes its 512 bytes sum to 0 (RULES 5). Of a block without A5h that cannot
 /// be told, and an absent one has nothing to be told of.

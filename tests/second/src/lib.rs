@@ -10,6 +10,7 @@
 pub mod census;
 pub mod completion;
 pub mod fault;
+pub mod fields;
 pub mod identify;
 pub mod inquiry;
 pub mod intake;

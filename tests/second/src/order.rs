@@ -1,7 +1,8 @@
-//! Pass-through orders, of the 12-byte and the 16-byte command (RULES 8).
+//! Pass-through orders (RULES 8).
 
+use crate::fields::{is_later, read_command, Fields};
 use crate::sense::{stated, write_refusal, write_report, Report};
-use crate::{fault, lent, refusal};
+use crate::{fault, identify, lent, refusal};
 use std::sync::atomic::{AtomicBool, AtomicU8, Ordering};
 
 /// The directions of an order.
@@ -13,6 +14,8 @@ pub const TO_DRIVE: u8 = 2;
 #[derive(Clone, Copy, Debug, Default, PartialEq, Eq)]
 pub struct Order {
     pub length: u32,
+    /// Of the 32-byte form alone.
+    pub auxiliary: u32,
     pub features: u16,
     pub count: u16,
     pub lba_low: u16,
@@ -130,38 +133,30 @@ pub struct Taken {
     pub order: Order,
 }
 
-/// The fields of both forms of the command (RULES 8.1).
-struct Fields {
-    multiple_count: u8,
-    protocol: u8,
-    extend: bool,
-    off_line: u8,
-    ck_cond: bool,
-    t_dir: bool,
-    byte_block: bool,
-    t_length: u8,
-    features: u16,
-    count: u16,
-    lba_low: u16,
-    lba_mid: u16,
-    lba_high: u16,
-    device: u8,
-    command: u8,
-    naca: bool,
-}
-
 /// Takes a pass-through command. The record changes only where an order is
-/// accepted (RULES 9).
+/// accepted (RULES 9). In the first edition the block is not looked at.
+#[allow(clippy::too_many_arguments)]
 pub fn submit(
     record: &mut Record,
     command: &[u8],
     registers: &[u8],
+    block: &[u8],
     declared: u32,
+    edition: u8,
     form: u8,
     sense: &mut [u8],
 ) -> Taken {
+    let later = is_later(edition);
+    let lent = Lent {
+        block,
+        declared,
+        later,
+    };
     if !lent::registers_size_is_right(registers) || !lent::sense_size_is_right(form, sense) {
         return refuse(refusal::SIZE, form, sense);
+    }
+    if let Some(number) = refused_by_block(&lent, edition, command) {
+        return refuse(number, form, sense);
     }
     if fault::planted("submit-refuses-all") {
         return refuse(refusal::FIELD, form, sense);
@@ -169,7 +164,7 @@ pub fn submit(
     if fault::planted("busy-before-protocol") && record.is_pending() {
         return refuse(refusal::PENDING, form, sense);
     }
-    let fields = match read_command(command).and_then(check_command) {
+    let fields = match read_command(command, later).and_then(check_command) {
         Ok(fields) => fields,
         Err(number) => return refuse(number, form, sense),
     };
@@ -180,11 +175,45 @@ pub fn submit(
     if has_no_place(record, &fields) {
         return refuse(refusal::PENDING, form, sense);
     }
-    match make_order(&fields, declared) {
+    match make_order(&fields, &lent) {
         Ok(order) if record.is_pending() => put_over(record, order),
         Ok(order) => fill(record, order, form),
         Err(number) => refuse(number, form, sense),
     }
+}
+
+/// What a length can hang on besides the command.
+struct Lent<'a> {
+    block: &'a [u8],
+    declared: u32,
+    later: bool,
+}
+
+/// The later edition's checks of the block: its size and, right behind, its
+/// damage, both before the command is looked at (RULES 3).
+fn refused_by_block(lent: &Lent, edition: u8, command: &[u8]) -> Option<u8> {
+    if fault::planted("edition-of-another-number-refused") && !(1..=2).contains(&edition) {
+        return Some(refusal::SIZE);
+    }
+    if fault::planted("edition-later-wants-a-block") && lent.later && lent.block.is_empty() {
+        return Some(refusal::SIZE);
+    }
+    let asks_size = if lent.later {
+        !fault::planted("edition-later-takes-any-size")
+    } else {
+        fault::planted("edition-first-asks-the-size")
+    };
+    if asks_size && !lent::block_size_is_right(lent.block) {
+        return Some(refusal::SIZE);
+    }
+    let asks_damage = if lent.later {
+        !fault::planted("edition-later-takes-damage")
+    } else {
+        fault::planted("edition-first-asks-damage")
+    };
+    let after = fault::planted("edition-damage-after-the-empty-command") && command.is_empty();
+    let told = asks_damage && !after && identify::is_damaged(lent.block);
+    told.then(|| refusal::DAMAGED)
 }
 
 /// For planted faults: protocol 15 leaves the record, whatever it holds.
@@ -297,6 +326,9 @@ fn spoil_older(record: &mut Record, before: &Record) {
             ..Order::default()
         };
     }
+    if fault::planted("auxiliary-lost-under-a-reset") {
+        record.older.auxiliary = 0;
+    }
     if fault::planted("reset-makes-the-order-tidy") {
         record.older.ck_cond = u8::from(before.order.ck_cond != 0);
         record.older.extend = u8::from(before.order.extend != 0);
@@ -312,6 +344,9 @@ fn fill(record: &mut Record, order: Order, form: u8) -> Taken {
     let before = *record;
     if !fault::planted("submit-writes-nothing") {
         *record = one(order);
+    }
+    if fault::planted("auxiliary-not-in-the-record") {
+        record.order.auxiliary = 0;
     }
     if fault::planted("reset-older-left-by-an-order") {
         record.older = before.older;
@@ -394,110 +429,30 @@ fn return_response(registers: &[u8], form: u8, sense: &mut [u8]) -> Taken {
     }
 }
 
-/// The opcode says how many bytes the command has; so 3 comes before the 2 of
-/// a command that is too short (RULES 3). Bytes behind them are not read.
-fn read_command(command: &[u8]) -> Result<Fields, u8> {
-    if command.is_empty() {
-        return Err(refusal::SHORT);
-    }
-    let size = match command[0] {
-        0xA1 => 12,
-        0x85 => 16,
-        _ => return Err(refusal::OPCODE),
-    };
-    if command.len() < size {
-        return Err(refusal::SHORT);
-    }
-    if size == 12 {
-        Ok(read_12(command))
-    } else {
-        Ok(read_16(command))
-    }
-}
-
-/// Bytes 1 and 2, which both forms share but for EXTEND (RULES 8.1). All else
-/// is left zero.
-fn read_first_bytes(command: &[u8]) -> Fields {
-    Fields {
-        multiple_count: command[1] >> 5,
-        protocol: (command[1] >> 1) & 0x0F,
-        extend: false,
-        off_line: command[2] >> 6,
-        ck_cond: command[2] & 0x20 != 0,
-        t_dir: command[2] & 0x08 != 0,
-        byte_block: command[2] & 0x04 != 0,
-        t_length: command[2] & 0x03,
-        features: 0,
-        count: 0,
-        lba_low: 0,
-        lba_mid: 0,
-        lba_high: 0,
-        device: 0,
-        command: 0,
-        naca: false,
-    }
-}
-
-/// The 12-byte form has no upper register bytes (RULES 8.1; table 92 of draft
-/// T10/06-291r2).
-fn read_12(command: &[u8]) -> Fields {
-    Fields {
-        features: register(0, command[3]),
-        count: register(0, command[4]),
-        lba_low: register(0, command[5]),
-        lba_mid: register(0, command[6]),
-        lba_high: register(0, command[7]),
-        device: command[8],
-        command: command[9],
-        naca: is_naca(command[11]),
-        ..read_first_bytes(command)
-    }
-}
-
-/// The 16-byte form's upper register bytes count with EXTEND alone (RULES 8.1;
-/// table 96 of that draft).
-fn read_16(command: &[u8]) -> Fields {
-    let extend = command[1] & 0x01 != 0;
-    let upper = |at: usize| if extend { command[at] } else { 0 };
-    Fields {
-        extend,
-        features: register(upper(3), command[4]),
-        count: register(upper(5), command[6]),
-        lba_low: register(upper(7), command[8]),
-        lba_mid: register(upper(9), command[10]),
-        lba_high: register(upper(11), command[12]),
-        device: command[13],
-        command: command[14],
-        naca: is_naca(command[15]),
-        ..read_first_bytes(command)
-    }
-}
-
-fn register(upper: u8, lower: u8) -> u16 {
-    u16::from_be_bytes([upper, lower])
-}
-
-fn is_naca(control: u8) -> bool {
-    control & 0x04 != 0
-}
-
-/// The checks 4 and 9, which come before that of the record (RULES 8.4).
+/// The checks 4, 20 and 9, which come before that of the record (RULES 8.4).
 fn check_command(fields: Fields) -> Result<Fields, u8> {
+    if fault::planted("long-20-before-4") && fields.wrong_action {
+        return Err(refusal::SERVICE_ACTION);
+    }
     if fields.naca {
         return Err(refusal::FIELD);
     }
-    if [2, 7, 12, 13, 14].contains(&fields.protocol) {
+    let unserved = [2, 7, 12, 13, 14].contains(&fields.protocol);
+    if fields.wrong_action && !(fault::planted("long-20-after-9") && unserved) {
+        return Err(refusal::SERVICE_ACTION);
+    }
+    if unserved {
         return Err(refusal::PROTOCOL);
     }
     Ok(fields)
 }
 
 /// The order of a protocol that check 9 let through and that is not 15.
-fn make_order(fields: &Fields, declared: u32) -> Result<Order, u8> {
+fn make_order(fields: &Fields, lent: &Lent) -> Result<Order, u8> {
     match fields.protocol {
         0 | 1 => Ok(reset_order(fields)),
-        3 | 8 | 9 => non_data_order(fields),
-        _ => data_order(fields, declared),
+        3 | 8 | 9 => non_data_order(fields, lent),
+        _ => data_order(fields, lent),
     }
 }
 
@@ -505,6 +460,7 @@ fn make_order(fields: &Fields, declared: u32) -> Result<Order, u8> {
 /// OFF_LINE count (RULES 8.3).
 fn reset_order(fields: &Fields) -> Order {
     Order {
+        auxiliary: auxiliary_of_a_reset(fields),
         protocol: fields.protocol,
         quiet_seconds: quiet_seconds(fields.off_line),
         sectors_per_block: 1,
@@ -513,17 +469,33 @@ fn reset_order(fields: &Fields) -> Order {
     }
 }
 
+fn auxiliary_of_a_reset(fields: &Fields) -> u32 {
+    if fault::planted("auxiliary-of-resets") {
+        fields.auxiliary
+    } else {
+        0
+    }
+}
+
 /// Protocols 3, 8 and 9 move no data, so T_DIR says nothing (RULES 8.4).
-fn non_data_order(fields: &Fields) -> Result<Order, u8> {
+fn non_data_order(fields: &Fields, lent: &Lent) -> Result<Order, u8> {
     if fields.t_length != 0 {
         return Err(refusal::T_LENGTH);
+    }
+    if fault::planted("sector-6-without-data") && fields.t_type && lent.has_none() {
+        return Err(refusal::NO_BLOCK);
     }
     Ok(full_order(fields, NO_DATA, 0))
 }
 
 /// Protocols 4 and 10 bring data, 5 and 11 send it, 6 does as T_DIR says
-/// (RULES 8.4).
-fn data_order(fields: &Fields, declared: u32) -> Result<Order, u8> {
+/// (RULES 8.4). 6 stands between the direction and the length, which hangs on
+/// the block.
+fn data_order(fields: &Fields, lent: &Lent) -> Result<Order, u8> {
+    let no_block = lacks_block(fields, lent);
+    if fault::planted("sector-6-before-11") && no_block {
+        return Err(refusal::NO_BLOCK);
+    }
     if fields.t_length == 0 {
         return Err(refusal::T_LENGTH);
     }
@@ -532,16 +504,19 @@ fn data_order(fields: &Fields, declared: u32) -> Result<Order, u8> {
         5 | 11 => !fields.t_dir,
         _ => true,
     };
+    if fault::planted("sector-6-before-12") && no_block {
+        return Err(refusal::NO_BLOCK);
+    }
     if !t_dir_fits {
         return Err(refusal::T_DIR);
     }
-    let length = length_in_bytes(fields, declared);
-    if length == 0 {
+    if fault::planted("sector-6-after-13") && number_of(fields) == Some(0) {
         return Err(refusal::LENGTH_ZERO);
     }
-    if length > declared {
-        return Err(refusal::ABOVE_DECLARED);
+    if no_block {
+        return Err(refusal::NO_BLOCK);
     }
+    let length = checked_length(length_in_bytes(fields, lent), lent.declared)?;
     let from_drive = if fault::planted("direction-from-opcode") {
         !(0x30..=0x3F).contains(&fields.command)
     } else {
@@ -551,28 +526,106 @@ fn data_order(fields: &Fields, declared: u32) -> Result<Order, u8> {
     Ok(full_order(fields, direction, length))
 }
 
-/// T_LENGTH says where the length stands (RULES 8.2); it is not 0 here.
-fn length_in_bytes(fields: &Fields, declared: u32) -> u32 {
-    if fault::planted("invented-lengths") {
-        return 512;
+/// 13 and 14: the length as it is, of however many bits, against the declared
+/// one, which has 32; so the order's has no more (RULES 8.4).
+fn checked_length(length: u64, declared: u32) -> Result<u32, u8> {
+    if length == 0 {
+        return Err(refusal::LENGTH_ZERO);
     }
-    match fields.t_length {
-        1 => counted(fields.features, fields.byte_block),
-        2 => counted(fields.count, fields.byte_block),
-        _ => declared,
+    let fits = u32::try_from(length)
+        .ok()
+        .filter(|&length| length <= declared);
+    fits.ok_or(refusal::ABOVE_DECLARED)
+}
+
+impl Lent<'_> {
+    /// Whether it is the edition that is lent a block, and it is lent none.
+    fn has_none(&self) -> bool {
+        let first = fault::planted("sector-6-in-the-first-edition");
+        (self.later || first) && self.block.is_empty()
     }
 }
 
-/// BYTE_BLOCK says what the number counts (RULES 8.2).
-fn counted(number: u16, byte_block: bool) -> u32 {
-    if fault::planted("count-0-is-256") && number == 0 {
-        return counted(256, byte_block);
+/// Whether sectors are to be counted of a drive that gave no block: 6
+/// (RULES 8.4).
+fn lacks_block(fields: &Fields, lent: &Lent) -> bool {
+    let counts = number_of(fields).is_some();
+    let (t_type, of_blocks) = match () {
+        _ if fault::planted("sector-512-without-a-block") => return false,
+        _ if fault::planted("sector-6-of-byte-counts") => (fields.t_type, counts),
+        _ if fault::planted("sector-6-of-the-declared-length") => {
+            (fields.t_type, fields.byte_block && fields.t_length != 0)
+        }
+        _ if fault::planted("sector-6-of-every-block-count") => (true, fields.byte_block && counts),
+        _ => (fields.t_type, fields.byte_block && counts),
+    };
+    t_type && of_blocks && lent.has_none()
+}
+
+/// T_TYPE says something of counts of blocks alone (RULES 8.2).
+fn counts_sectors(fields: &Fields, lent: &Lent) -> bool {
+    let first = fault::planted("edition-first-reads-t-type") && !lent.block.is_empty();
+    let t_type = match (fields.t_type, lent.later || first) {
+        (_, false) => false,
+        _ if fault::planted("sector-not-asked") => false,
+        _ if fault::planted("sector-of-every-block-count") => !lent.block.is_empty(),
+        _ if fault::planted("sector-where-t-type-is-zero") => {
+            !fields.t_type && !lent.block.is_empty()
+        }
+        (t_type, _) => t_type,
+    };
+    let of_bytes = fault::planted("sector-of-byte-counts") && !lent.block.is_empty();
+    t_type && (fields.byte_block || of_bytes) && number_of(fields).is_some()
+}
+
+/// The number of the field that T_LENGTH points at; None where the length is
+/// no count (RULES 8.2).
+fn number_of(fields: &Fields) -> Option<u16> {
+    match fields.t_length {
+        1 => Some(fields.features),
+        2 => Some(fields.count),
+        _ => None,
     }
-    if byte_block {
-        u32::from(number) * 512
+}
+
+/// T_LENGTH says where the length stands (RULES 8.2); it is not 0 here.
+fn length_in_bytes(fields: &Fields, lent: &Lent) -> u64 {
+    if fault::planted("invented-lengths") {
+        return 512;
+    }
+    let number = match number_of(fields) {
+        Some(0) if fault::planted("count-0-is-256") => 256,
+        Some(number) => u64::from(number),
+        None => return u64::from(lent.declared),
+    };
+    product(number, unit(fields, lent))
+}
+
+/// What a count counts, in bytes: bytes, blocks of 512, or the drive's logical
+/// sectors (RULES 8.2).
+fn unit(fields: &Fields, lent: &Lent) -> u64 {
+    if counts_sectors(fields, lent) && lent.block.len() == 512 {
+        identify::sector_size(lent.block)
+    } else if fields.byte_block {
+        512
     } else {
-        u32::from(number)
+        1
     }
+}
+
+/// 65,535 sectors of twice 4,294,967,295 bytes need 49 bits.
+fn product(number: u64, unit: u64) -> u64 {
+    let exact = number * unit;
+    if fault::planted("sector-product-of-32-bits") {
+        return exact & 0xFFFF_FFFF;
+    }
+    if fault::planted("sector-product-of-48-bits") {
+        return exact & 0xFFFF_FFFF_FFFF;
+    }
+    if fault::planted("sector-product-cut-at-32-bits") {
+        return exact.min(0xFFFF_FFFF);
+    }
+    exact
 }
 
 /// 0, 2, 6 or 14 (RULES 8.3).
@@ -589,6 +642,7 @@ fn sectors_per_block(multiple_count: u8) -> u16 {
 fn full_order(fields: &Fields, direction: u8, length: u32) -> Order {
     Order {
         length,
+        auxiliary: fields.auxiliary,
         features: fields.features,
         count: fields.count,
         lba_low: fields.lba_low,

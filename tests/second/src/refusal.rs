@@ -47,6 +47,8 @@ pub const CENSUS: u8 = 17;
 pub const DAMAGED: u8 = 18;
 /// There is no such port.
 pub const PORT: u8 = 19;
+/// It is another command of the opcode 7Fh.
+pub const SERVICE_ACTION: u8 = 20;
 
 /// The column Status of the table.
 pub fn status(number: u8) -> u8 {
@@ -74,6 +76,7 @@ pub fn key_asc_ascq(number: u8) -> Option<[u8; 3]> {
         ABOVE_DECLARED => Some([0x05, 0x24, 0x00]),
         PORT if fault::planted("ports-number-without-sense") => None,
         PORT => Some([0x05, 0x24, 0x00]),
+        SERVICE_ACTION => Some([0x05, 0x24, 0x00]),
         DAMAGED if fault::planted("damage-told-in-sense") => Some([0x0B, 0x00, 0x00]),
         _ => None,
     }

@@ -225,22 +225,38 @@ pub struct Pass {
     pub record: Record,
     pub command: Vec<u8>,
     pub registers: Vec<u8>,
+    pub block: Vec<u8>,
     pub declared: u32,
+    pub edition: u8,
     pub form: u8,
     pub sense: usize,
 }
 
 impl Pass {
-    /// Nothing pending, ample declared length, and the given command.
+    /// Nothing pending, ample declared length, no edition stated and no block,
+    /// and the given command.
     pub fn new(command: &[u8]) -> Pass {
         Pass {
             record: Record::default(),
             command: command.to_vec(),
             registers: REGISTERS.to_vec(),
+            block: Vec::new(),
             declared: u32::MAX,
+            edition: 0,
             form: 0,
             sense: 30,
         }
+    }
+
+    /// The same by the later edition, with this block.
+    pub fn later(mut self, block: &[u8]) -> Pass {
+        self.block = block.to_vec();
+        self.edition(2)
+    }
+
+    pub fn edition(mut self, edition: u8) -> Pass {
+        self.edition = edition;
+        self
     }
 
     pub fn declared(mut self, declared: u32) -> Pass {
@@ -284,7 +300,9 @@ impl Pass {
             &mut record,
             &self.command,
             &self.registers,
+            &self.block,
             self.declared,
+            self.edition,
             self.form,
             &mut sense,
         );
@@ -353,6 +371,7 @@ pub fn some_record() -> Record {
         state: 0x8000_0007,
         order: Order {
             length: 0xDEAD_BEEF,
+            auxiliary: 0xFEED_C0DE,
             features: 0x1122,
             count: 0x3344,
             lba_low: 0x5566,
@@ -402,6 +421,7 @@ pub fn row(number: u8) -> (u8, Option<[u8; 3]>) {
         16 => (0xFF, None),
         18 => (0xFF, None),
         19 => (0x02, Some([0x05, 0x24, 0x00])),
+        20 => (0x02, Some([0x05, 0x24, 0x00])),
         _ => panic!("no such row"),
     }
 }

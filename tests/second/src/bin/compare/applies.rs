@@ -51,7 +51,7 @@ const IN_INQUIRY: [(usize, usize); 24] = [
     (18, 19),
 ];
 
-const IN_SUBMIT: [(usize, usize); 25] = [
+const IN_SUBMIT: [(usize, usize); 51] = [
     (1, 2),
     (1, 3),
     (1, 4),
@@ -77,6 +77,32 @@ const IN_SUBMIT: [(usize, usize); 25] = [
     (11, 12),
     (12, 13),
     (12, 14),
+    (1, 6),
+    (1, 18),
+    (1, 20),
+    (4, 6),
+    (4, 20),
+    (6, 10),
+    (6, 12),
+    (6, 13),
+    (6, 14),
+    (6, 20),
+    (2, 18),
+    (3, 18),
+    (4, 18),
+    (9, 18),
+    (10, 18),
+    (11, 18),
+    (12, 18),
+    (13, 18),
+    (14, 18),
+    (18, 20),
+    (9, 20),
+    (10, 20),
+    (11, 20),
+    (12, 20),
+    (13, 20),
+    (14, 20),
 ];
 
 fn set(conditions: &[(usize, bool)]) -> Set {
@@ -84,17 +110,16 @@ fn set(conditions: &[(usize, bool)]) -> Set {
     held.fold(0, |set, (number, _)| set | 1 << number)
 }
 
-/// The refusal that answers: 1, then 17 and 18, then the lowest number, with 19
-/// behind 6; 2 and 3 never apply together.
+/// The refusals in the order in which they are asked (RULES 3): 2 and 3 never
+/// apply together, nor do 5, 7, 8 and 19 with 9 to 14.
+const IN_ORDER: [u32; 20] = [
+    1, 17, 18, 2, 3, 4, 20, 5, 9, 10, 11, 12, 6, 19, 7, 8, 13, 14, 15, 16,
+];
+
+/// The refusal that answers; 0 where none applies.
 pub fn first(set: Set) -> u32 {
-    match set {
-        0 => 0,
-        _ if set >> 1 & 1 == 1 => 1,
-        _ if set >> 17 & 1 == 1 => 17,
-        _ if set >> 18 & 1 == 1 => 18,
-        _ if set >> 19 & 1 == 1 && set & 0b111_1110 == 0 => 19,
-        _ => set.trailing_zeros(),
-    }
+    let applies = |number: &u32| set >> number & 1 == 1;
+    IN_ORDER.into_iter().find(applies).unwrap_or(0)
 }
 
 /// Whether a block of any size is damaged (RULES 5), read here once more.
@@ -103,12 +128,12 @@ fn is_damaged(block: &[u8]) -> bool {
     block.len() == 512 && block[510] == 0xA5 && sum != 0
 }
 
-/// The refusals that apply to the call.
-pub fn to(call: &Call) -> Set {
+/// The refusals that apply to the call in this edition.
+pub fn to(call: &Call, edition: u8) -> Set {
     let sizes: Vec<usize> = call.pieces.iter().map(Vec::len).collect();
     match call.function {
         INQUIRY => to_inquiry(call, &sizes),
-        SUBMIT => to_submit(call, &sizes),
+        SUBMIT => to_submit(call, &sizes, edition == 2),
         COMPLETE => set(&[
             (1, sizes[0] != 11 || sizes[1] < 22),
             (15, call.record.state == 0),
@@ -168,7 +193,7 @@ fn to_its_block(call: &Call) -> Set {
     }
     pieces.swap(0, 1);
     let asked = Call::new(INQUIRY, pieces).ports(call.ports, &call.pieces[5]);
-    to(&asked)
+    to(&asked, 0)
 }
 
 /// What applies to the gathering, and where nothing does to the roll: there is
@@ -281,32 +306,59 @@ fn has_no_place(record: &Record, protocol: u8) -> bool {
     }
 }
 
-fn to_submit(call: &Call, sizes: &[usize]) -> Set {
-    let command = &call.pieces[0];
-    let size = match command.first() {
-        Some(0xA1) => 12,
-        Some(0x85) => 16,
-        _ => 0,
+/// Where a form has its flags, its control byte, features and count (their
+/// lower bytes), and whether there are upper ones; no form is 0 bytes long.
+struct Form {
+    size: usize,
+    flags: usize,
+    control: usize,
+    numbers: [usize; 2],
+    upper: bool,
+}
+
+fn form_of(command: &[u8], later: bool) -> Form {
+    let (size, flags, control, numbers) = match command.first() {
+        Some(0xA1) => (12, 1, 11, [3, 4]),
+        Some(0x85) => (16, 1, 15, [4, 6]),
+        Some(0x7F) if later => (32, 10, 1, [21, 23]),
+        _ => (0, 1, 0, [0, 0]),
     };
-    let protocol = command.get(1).map_or(0, |byte| byte >> 1 & 0x0F);
+    Form {
+        size,
+        flags,
+        control,
+        numbers,
+        upper: size > 12,
+    }
+}
+
+fn to_submit(call: &Call, sizes: &[usize], later: bool) -> Set {
+    let command = &call.pieces[0];
+    let form = form_of(command, later);
+    let protocol = command.get(form.flags).map_or(0, |byte| byte >> 1 & 0x0F);
+    let wrong_block = later && sizes[2] != 0 && sizes[2] != 512;
     let before = set(&[
-        (1, sizes[1] != 11 || sizes[2] < 22),
-        (2, command.len() < size.max(1)),
-        (3, size == 0 && !command.is_empty()),
+        (1, sizes[1] != 11 || sizes[3] < 22 || wrong_block),
+        (18, later && is_damaged(&call.pieces[2])),
+        (2, command.len() < form.size.max(1)),
+        (3, form.size == 0 && !command.is_empty()),
         (10, has_no_place(&call.record, protocol)),
     ]);
     if before & 0b1100 != 0 {
         return before;
     }
-    let naca = command[size - 1] & 4 != 0;
+    let naca = command[form.control] & 4 != 0;
     let unserved = [2, 7, 12, 13, 14].contains(&protocol);
-    before | set(&[(4, naca), (9, unserved)]) | to_transfer(call, size, protocol)
+    let wrong_action = form.size == 32 && command[7..10] != [0x18, 0x1F, 0xF0];
+    let of_command = set(&[(4, naca), (9, unserved), (20, wrong_action)]);
+    before | of_command | to_transfer(call, &form, protocol, later)
 }
 
-/// 11 to 14, of the protocols that they concern.
-fn to_transfer(call: &Call, size: usize, protocol: u8) -> Set {
+/// 11 to 14 and 6, of the protocols that they concern.
+fn to_transfer(call: &Call, form: &Form, protocol: u8, later: bool) -> Set {
     let command = &call.pieces[0];
-    let (t_length, from_drive) = (command[2] & 3, command[2] & 8 != 0);
+    let flags = command[form.flags + 1];
+    let (t_length, from_drive) = (flags & 3, flags & 8 != 0);
     let wrong_direction = match protocol {
         3 | 8 | 9 => return set(&[(11, t_length != 0)]),
         4 | 10 => !from_drive,
@@ -314,23 +366,41 @@ fn to_transfer(call: &Call, size: usize, protocol: u8) -> Set {
         6 => false,
         _ => return 0,
     };
-    let extended = size == 16 && command[1] & 1 != 0;
-    let at = if size == 16 { [4, 6] } else { [3, 4] };
+    let extended = form.upper && command[form.flags] & 1 != 0;
     let number = |at: usize| {
         let upper = if extended { command[at - 1] } else { 0 };
-        u64::from(upper) * 256 + u64::from(command[at])
+        u128::from(upper) * 256 + u128::from(command[at])
     };
-    let unit = if command[2] & 4 != 0 { 512 } else { 1 };
-    let declared = u64::from(call.declared);
+    let of_sectors = later && flags & 0x14 == 0x14 && (1..=2).contains(&t_length);
+    let unit = match flags & 4 {
+        0 => 1,
+        _ if of_sectors => sector_size(&call.pieces[2]),
+        _ => 512,
+    };
+    let declared = u128::from(call.declared);
     let length = match t_length {
         0 => return set(&[(11, true), (12, wrong_direction)]),
-        1 => unit * number(at[0]),
-        2 => unit * number(at[1]),
+        1 => unit * number(form.numbers[0]),
+        2 => unit * number(form.numbers[1]),
         _ => declared,
     };
     set(&[
         (12, wrong_direction),
+        (6, of_sectors && call.pieces[2].is_empty()),
         (13, length == 0),
         (14, length > declared),
     ])
+}
+
+/// The size of a logical sector (RULES 5), read here once more; of a block that
+/// is no block it is one of 512.
+fn sector_size(block: &[u8]) -> u128 {
+    match block.get(213).map(|high| high & 0xD0) {
+        Some(0x50) => {
+            (234..238).rev().fold(0, |number, at| {
+                number * 256 + u128::from(block.get(at).copied().unwrap_or(0))
+            }) * 2
+        }
+        _ => 512,
+    }
 }

@@ -2,7 +2,8 @@
 //! compares its answers with the second program's.
 
 use crate::applies;
-use crate::call::{Call, Said, NAMES};
+use crate::call::{Call, Said, Stated, NAMES, SUBMIT};
+use crate::editions;
 use crate::numbers::Numbers;
 use crate::senses;
 use crate::show;
@@ -16,7 +17,7 @@ use std::sync::Arc;
 use std::thread::JoinHandle;
 
 /// Numbers below this one come back.
-pub const NUMBERS: usize = 20;
+pub const NUMBERS: usize = 21;
 /// A batch is sent when it has so many bytes.
 const BATCH: usize = 128 << 10;
 /// So many differences of a class are printed in full.
@@ -61,8 +62,10 @@ pub struct Board {
     /// The kinds of forms in which each function gave each number: bit n for
     /// form n, bit 3 for all numbers that state none but 0.
     pub formed: [[u8; NUMBERS]; NAMES.len()],
-    /// From which the form comes of a call that leaves it open.
-    forms: Numbers,
+    /// The kinds of editions in which submit gave each number, likewise.
+    pub editions: [u8; NUMBERS],
+    /// From which the form and the edition come of a call that leaves them open.
+    open: Numbers,
 }
 
 fn spawn(command: &[String]) -> io::Result<(Child, ChildStdin, ChildStdout)> {
@@ -102,7 +105,8 @@ impl Board {
             applied: vec![HashSet::new(); NAMES.len()],
             not_first: 0,
             formed: [[0; NUMBERS]; NAMES.len()],
-            forms: Numbers::new(0),
+            editions: [0; NUMBERS],
+            open: Numbers::new(0),
         })
     }
 
@@ -124,26 +128,41 @@ impl Board {
     /// Makes a call of both programs.
     pub fn call(&mut self, call: &Call) -> Said {
         let at = self.classes.len() - 1;
-        let form = call.form.unwrap_or_else(|| senses::any(&mut self.forms));
+        let stated = self.state(call);
         let batch = &mut self.batch;
         (batch.class, batch.name) = (at, self.classes[at].name);
         let start = (batch.requests.len(), batch.answers.len());
         batch.starts.push(start);
-        call.encode(form, &mut batch.requests);
-        let said = call.answer(form, &mut batch.answers);
+        call.encode(stated, &mut batch.requests);
+        let said = call.answer(stated, &mut batch.answers);
         self.classes[at].calls += 1;
         self.classes[at].numbers |= 1 << said.number;
-        self.count(call, form, said.number);
+        self.count(call, stated, said.number);
         if self.batch.requests.len() >= BATCH {
             self.send();
         }
         said
     }
 
-    /// Notes the number given, and the form in which it was.
-    fn count(&mut self, call: &Call, form: u8, number: u8) {
+    /// What the call states, and any of what it leaves open.
+    fn state(&mut self, call: &Call) -> Stated {
+        let open = &mut self.open;
+        let form = call.form.unwrap_or_else(|| senses::any(open));
+        let edition = match (call.function, call.edition) {
+            (SUBMIT, None) => editions::any(open),
+            (_, edition) => edition.unwrap_or(0),
+        };
+        Stated { form, edition }
+    }
+
+    /// Notes the number given, and in which form and edition it was.
+    fn count(&mut self, call: &Call, stated: Stated, number: u8) {
+        let Stated { form, edition } = stated;
         let function = usize::from(call.function);
-        let set = applies::to(call);
+        let set = applies::to(call, edition);
+        if call.function == SUBMIT {
+            self.editions[usize::from(number)] |= 1 << edition.min(3);
+        }
         self.counts[function][usize::from(number)] += 1;
         self.formed[function][usize::from(number)] |= 1 << form.min(3);
         self.not_first += u64::from(applies::first(set) != u32::from(number));

@@ -49,7 +49,7 @@ pub const PIECES: [&[&str]; 13] = [
         "room",
         "sense",
     ],
-    &["command", "registers", "sense"],
+    &["command", "registers", "block", "sense"],
     &["registers", "sense"],
     &["block", "address", "room"],
     &["page"],
@@ -93,11 +93,20 @@ pub struct Call {
     /// The form of sense data that the caller states; None leaves it open, and
     /// the call is made in any.
     pub form: Option<u8>,
+    /// The edition that the caller of submit states; None likewise.
+    pub edition: Option<u8>,
     pub record: Record,
     pub intake: Intake,
     /// The ports that page 83h is to tell; the address is a piece.
     pub ports: Ports,
     pub pieces: Vec<Vec<u8>>,
+}
+
+/// What a call states, where it is made.
+#[derive(Clone, Copy)]
+pub struct Stated {
+    pub form: u8,
+    pub edition: u8,
 }
 
 /// What the second program said, besides the bytes.
@@ -116,6 +125,7 @@ impl Call {
             kept: false,
             declared: 0,
             form: None,
+            edition: None,
             record: Record::default(),
             intake: Intake::default(),
             ports: Ports::default(),
@@ -151,18 +161,23 @@ impl Call {
         self
     }
 
+    pub fn edition(mut self, edition: u8) -> Call {
+        self.edition = Some(edition);
+        self
+    }
+
     pub fn piece(mut self, at: usize, bytes: Vec<u8>) -> Call {
         self.pieces[at] = bytes;
         self
     }
 
-    /// The call in this form, as the board reads it.
-    pub fn encode(&self, form: u8, out: &mut Vec<u8>) {
+    /// The call with what it states, as the board reads it.
+    pub fn encode(&self, stated: Stated, out: &mut Vec<u8>) {
         let start = out.len();
         out.extend([0; 4]);
         out.push(self.function | if self.kept { KEPT } else { 0 });
         out.extend(self.declared.to_le_bytes());
-        out.push(form);
+        out.extend([stated.form, stated.edition]);
         put_record(&self.record, out);
         put_intake(&self.intake, out);
         put_ports(&self.ports, out);
@@ -180,6 +195,7 @@ impl Call {
         let function = from.number(1)? as u8 & !KEPT;
         let declared = from.number(4)? as u32;
         let form = Some(from.number(1)? as u8);
+        let edition = Some(from.number(1)? as u8);
         let record = from.record()?;
         let intake = from.intake()?;
         let ports = from.ports()?;
@@ -197,6 +213,7 @@ impl Call {
             kept: false,
             declared,
             form,
+            edition,
             record,
             intake,
             ports,
@@ -205,9 +222,10 @@ impl Call {
         from.0.is_empty().then_some(call)
     }
 
-    /// Runs the second program on copies of the pieces, in this form, and
-    /// writes down what the board is to answer.
-    pub fn answer(&self, form: u8, out: &mut Vec<u8>) -> Said {
+    /// Runs the second program on copies of the pieces, with what the call
+    /// states, and writes down what the board is to answer.
+    pub fn answer(&self, stated: Stated, out: &mut Vec<u8>) -> Said {
+        let form = stated.form;
         let start = out.len();
         out.extend([0; 4]);
         out.push(self.function);
@@ -216,7 +234,7 @@ impl Call {
         let number = match self.function {
             EMPTY => answer_empty(&record, out),
             INQUIRY => self.answer_inquiry(form, &record, out),
-            SUBMIT => self.answer_submit(form, &mut record, out),
+            SUBMIT => self.answer_submit(stated, &mut record, out),
             COMPLETE => {
                 let ended = self.answer_complete(form, &mut record, out);
                 lost = (ended.lost, ended.lost_protocol);
@@ -268,15 +286,18 @@ impl Call {
         )
     }
 
-    fn answer_submit(&self, form: u8, record: &mut Record, out: &mut Vec<u8>) -> u8 {
+    fn answer_submit(&self, stated: Stated, record: &mut Record, out: &mut Vec<u8>) -> u8 {
         let p = &self.pieces;
-        let mut sense = p[2].clone();
-        let taken = second::submit(record, &p[0], &p[1], self.declared, form, &mut sense);
+        let Stated { form, edition } = stated;
+        let mut sense = p[3].clone();
+        let declared = self.declared;
+        let taken = second::submit(
+            record, &p[0], &p[1], &p[2], declared, edition, form, &mut sense,
+        );
         out.extend([taken.number, taken.status]);
         put_order(&taken.order, out);
         put_record(record, out);
-        out.extend(&p[0]);
-        out.extend(&p[1]);
+        p[..3].iter().for_each(|piece| out.extend(piece));
         out.extend(&sense);
         taken.number
     }
@@ -500,6 +521,7 @@ fn put_roll(roll: &Roll, out: &mut Vec<u8>) {
 
 fn put_order(order: &Order, out: &mut Vec<u8>) {
     out.extend(order.length.to_le_bytes());
+    out.extend(order.auxiliary.to_le_bytes());
     for number in [
         order.features,
         order.count,
@@ -533,6 +555,7 @@ impl<'a> Bytes<'a> {
     pub fn order(&mut self) -> Option<Order> {
         Some(Order {
             length: self.number(4)? as u32,
+            auxiliary: self.number(4)? as u32,
             features: self.number(2)? as u16,
             count: self.number(2)? as u16,
             lba_low: self.number(2)? as u16,

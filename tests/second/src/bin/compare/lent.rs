@@ -137,6 +137,7 @@ pub fn odd_record(state: u32, ck_cond: u8, extend: u8) -> Record {
         state,
         order: Order {
             length: 0xDEAD_BEEF,
+            auxiliary: 0xFEED_C0DE,
             features: 0x1122,
             count: 0x3344,
             lba_low: 0x5566,
@@ -151,22 +152,27 @@ pub fn odd_record(state: u32, ck_cond: u8, extend: u8) -> Record {
             extend,
             direction: 0xEE,
         },
-        older: Order {
-            length: 0xFEED_FACE,
-            features: 0x2233,
-            count: 0x4455,
-            lba_low: 0x6677,
-            lba_mid: 0x8899,
-            lba_high: 0xAABB,
-            quiet_seconds: 888,
-            sectors_per_block: 666,
-            device: 0xC1,
-            command: 0xD1,
-            protocol: 0xE1,
-            ck_cond: opposite(ck_cond),
-            extend: opposite(extend),
-            direction: 0xF1,
-        },
+        older: odd_older(opposite(ck_cond), opposite(extend)),
+    }
+}
+
+fn odd_older(ck_cond: u8, extend: u8) -> Order {
+    Order {
+        length: 0xFEED_FACE,
+        auxiliary: 0x0BAD_CAFE,
+        features: 0x2233,
+        count: 0x4455,
+        lba_low: 0x6677,
+        lba_mid: 0x8899,
+        lba_high: 0xAABB,
+        quiet_seconds: 888,
+        sectors_per_block: 666,
+        device: 0xC1,
+        command: 0xD1,
+        protocol: 0xE1,
+        ck_cond,
+        extend,
+        direction: 0xF1,
     }
 }
 
@@ -197,9 +203,18 @@ pub fn packet(mut call: Call, reply: &[u8]) -> Call {
     call
 }
 
-/// A pass-through command with nothing pending.
+/// The block with sectors of this many words, as word 106 tells of them.
+pub fn with_sectors(block: Vec<u8>, words: u32) -> Vec<u8> {
+    let block = with_word(block, 106, 0x5000);
+    let block = with_word(block, 117, words as u16);
+    with_word(block, 118, (words >> 16) as u16)
+}
+
+/// A pass-through command with nothing pending, for a drive with sectors of
+/// 4096 bytes.
 pub fn submit(command: &[u8], declared: u32) -> Call {
-    let pieces = vec![command.to_vec(), REGISTERS.to_vec(), room(26)];
+    let block = with_sectors(text_block(), 2048);
+    let pieces = vec![command.to_vec(), REGISTERS.to_vec(), block, room(26)];
     Call::new(call::SUBMIT, pieces).declared(declared)
 }
 

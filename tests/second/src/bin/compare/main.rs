@@ -14,6 +14,7 @@ mod applies;
 mod board;
 mod call;
 mod censuses;
+mod editions;
 mod inquiries;
 mod intakes;
 mod lent;
@@ -29,7 +30,8 @@ mod show;
 mod soundings;
 
 use board::{Board, Talk, NUMBERS};
-use call::{Call, COMPLETE, INQUIRY, INTAKE_INQUIRY, NAMES, SUBMIT};
+use call::{Call, Stated, COMPLETE, INQUIRY, INTAKE_INQUIRY, NAMES, SUBMIT};
+use second::fields::LATER;
 use std::error::Error;
 use std::io;
 use std::process::ExitCode;
@@ -124,7 +126,7 @@ fn real_blocks(folder: &str) -> io::Result<Vec<Vec<u8>>> {
 /// A class of inputs that takes nothing but the board.
 type Inputs = fn(&mut Board);
 
-const CLASSES: [(&str, Inputs); 54] = [
+const CLASSES: [(&str, Inputs); 62] = [
     ("soundings C1 to C13", soundings::numbered),
     ("the other soundings", soundings::others),
     ("published examples", soundings::published),
@@ -148,6 +150,20 @@ const CLASSES: [(&str, Inputs); 54] = [
         "resets: the fields of a reset over an order",
         resets::fields,
     ),
+    ("editions: every number of one", editions::numbers),
+    ("editions: the fields of the 32-byte form", editions::fields),
+    ("editions: every flag of the 32-byte form", editions::flags),
+    ("editions: commands of every size", editions::sizes),
+    (
+        "editions: bytes 7 to 9 of the 32-byte form",
+        editions::actions,
+    ),
+    ("editions: sizes of sectors", editions::sectors),
+    (
+        "editions: products around 32 bits and the declared length",
+        editions::products,
+    ),
+    ("editions: refusals alone and together", editions::refusals),
     ("sense: refusals in every form", senses::refusals),
     ("sense: every number of a form, by rooms", senses::numbers),
     ("sense: each register, in every form", senses::registers),
@@ -258,6 +274,8 @@ struct Agreed {
     classes: bool,
     /// The two forms of sense data.
     forms: bool,
+    /// The two editions, of commands in which they do not differ.
+    editions: bool,
     /// Orders that were taken, and what was told of them.
     orders: bool,
 }
@@ -282,6 +300,8 @@ fn seeded(board: &mut Board, asked: &Asked) -> Agreed {
     let forms = senses::both(board, asked.seed, &asked.real);
     board.class("census: fleets of drives");
     let classes = censuses::fleets(board, &asked.real, asked.seed);
+    board.class("editions: one command in both");
+    let editions = editions::both(board, asked.seed, &asked.real);
     board.class("resets: records of random bytes");
     resets::any_records(board, asked.seed);
     board.class("sequences through one record");
@@ -296,6 +316,7 @@ fn seeded(board: &mut Board, asked: &Asked) -> Agreed {
         cuts,
         classes,
         forms,
+        editions,
         orders,
     }
 }
@@ -339,6 +360,10 @@ fn own_answers(agreed: &Agreed, report: &mut Report) {
         "sense: a form changes the sense bytes alone, and both tell the same",
     );
     report.check(
+        agreed.editions,
+        "editions: a command of 12 or 16 bytes without T_TYPE is the same in both",
+    );
+    report.check(
         agreed.orders,
         "sequences: an order is ended or told lost once, or still pending",
     );
@@ -362,6 +387,7 @@ fn coverage(board: &Board, report: &mut Report) {
         }
     }
     forms_tried(board, report);
+    editions_tried(board, report);
     pairs_tried(board, report);
 }
 
@@ -372,6 +398,17 @@ fn forms_tried(board: &Board, report: &mut Report) {
         let text = format!("{}: each number in every form", NAMES[function]);
         report.check(GIVEN[function].iter().all(every), &text);
     }
+}
+
+/// That submit gave each number in every kind of edition that can give it: 6, 18
+/// and 20 are the later one's alone.
+fn editions_tried(board: &Board, report: &mut Report) {
+    let all = |&number: &usize| match number {
+        6 | 18 | 20 => board.editions[number] == 1 << LATER,
+        _ => board.editions[number] == 0b1111,
+    };
+    let held = GIVEN[usize::from(SUBMIT)].iter().all(all);
+    report.check(held, "submit: each number in every edition that has it");
 }
 
 /// That the refusals that can apply together were tried so.
@@ -394,7 +431,7 @@ fn pairs_tried(board: &Board, report: &mut Report) {
 const GIVEN: [&[usize]; 13] = [
     &[0],
     &[0, 1, 2, 3, 4, 5, 6, 7, 8, 18, 19],
-    &[0, 1, 2, 3, 4, 9, 10, 11, 12, 13, 14],
+    &[0, 1, 2, 3, 4, 6, 9, 10, 11, 12, 13, 14, 18, 20],
     &[0, 1, 15],
     &[0, 1, 8, 18, 19],
     &[0, 16],
@@ -431,9 +468,12 @@ fn replay(arguments: &[String]) -> io::Result<bool> {
     let request = show::from_hex(digits.trim_start_matches('-').trim()).unwrap_or_default();
     let call = Call::decode(&request).ok_or_else(|| trouble("no call in these digits"))?;
     let (mut sent, mut wanted) = (Vec::new(), Vec::new());
-    let form = call.form.unwrap_or(0);
-    call.encode(form, &mut sent);
-    call.answer(form, &mut wanted);
+    let stated = Stated {
+        form: call.form.unwrap_or(0),
+        edition: call.edition.unwrap_or(0),
+    };
+    call.encode(stated, &mut sent);
+    call.answer(stated, &mut wanted);
     let mut talk = Talk::start(&behind_dashes(arguments)?)?;
     let given = talk.ask(&sent, wanted.len()).ok();
     let equal = given.as_deref() == Some(&wanted[..]);

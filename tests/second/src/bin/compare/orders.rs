@@ -2,6 +2,7 @@
 
 use crate::board::Board;
 use crate::call::{Call, Said, COMPLETE, SUBMIT};
+use crate::editions;
 use crate::lent::{self, odd_record, room};
 use crate::numbers::Numbers;
 use second::Record;
@@ -22,6 +23,16 @@ pub fn command(long: bool, byte_1: u8, byte_2: u8, numbers: (u16, u16), control:
             0xA1, byte_1, byte_2, fl, cl, 0x15, 0x16, 0x17, 0x18, 0x19, 0x1A, control,
         ]
     }
+}
+
+/// PROTOCOL as the form has it; 0 where the command is too short.
+pub fn protocol_in(command: &[u8]) -> u8 {
+    let at = if command.first() == Some(&0x7F) {
+        10
+    } else {
+        1
+    };
+    command.get(at).map_or(0, |byte| byte >> 1 & 0x0F)
 }
 
 /// PROTOCOL by T_LENGTH by T_DIR by BYTE_BLOCK by EXTEND by pending or not, for
@@ -120,7 +131,7 @@ pub fn refusals(board: &mut Board) {
                     let call = lent::submit(&command, declared)
                         .record(odd_record(state, 0, 0))
                         .piece(1, vec![0x51; registers])
-                        .piece(2, room(sense));
+                        .piece(3, room(sense));
                     board.call(&call);
                 }
             }
@@ -152,7 +163,7 @@ pub fn sizes(board: &mut Board) {
                 for sense in [0, 1, 7, 8, 9, 21, 22, 23, 64] {
                     let call = lent::submit(&command, 512)
                         .piece(1, vec![0x40; registers])
-                        .piece(2, room(sense));
+                        .piece(3, room(sense));
                     board.call(&call);
                 }
             }
@@ -242,7 +253,7 @@ struct Told {
 impl Told {
     /// Whether a step tells of what is pending, and of nothing else.
     fn step(&mut self, call: &Call, said: &Said) -> bool {
-        let protocol = call.pieces[0].get(1).map_or(0, |byte| byte >> 1 & 0x0F);
+        let protocol = protocol_in(&call.pieces[0]);
         match (call.function, said.number) {
             (SUBMIT, 0) if protocol != 15 => self.pending.push(protocol),
             (SUBMIT, 10) => self.busy[usize::from(protocol > 1)] += 1,
@@ -278,20 +289,9 @@ fn a_step(numbers: &mut Numbers) -> Call {
         }
         return call;
     }
-    let protocol = match numbers.below(6) {
-        0 => 15,
-        1 => numbers.below(2) as u8,
-        _ => numbers.below(16) as u8,
-    };
-    let byte_1 = protocol << 1 | numbers.byte() & 0xE1;
-    let pair = (numbers.byte() as u16, numbers.next() as u16);
-    let control = if numbers.once_in(16) { 0x04 } else { 0x00 };
-    let mut command = command(numbers.once_in(2), byte_1, numbers.byte(), pair, control);
-    for at in 5..command.len() - 1 {
-        command[at] = numbers.byte();
-    }
+    let mut command = a_command(numbers);
     if numbers.once_in(16) {
-        command.truncate(numbers.below(17));
+        command.truncate(numbers.below(command.len() + 1));
     }
     if numbers.once_in(32) {
         command.insert(0, 0x12);
@@ -300,5 +300,30 @@ fn a_step(numbers: &mut Numbers) -> Call {
     let mut call = lent::submit(&command, declared);
     let size = if numbers.once_in(20) { 12 } else { 11 };
     call.pieces[1] = numbers.bytes(size);
+    if numbers.once_in(8) {
+        call.pieces[2].clear();
+    }
     call
+}
+
+/// A command of such a step, of any form.
+fn a_command(numbers: &mut Numbers) -> Vec<u8> {
+    let protocol = match numbers.below(6) {
+        0 => 15,
+        1 => numbers.below(2) as u8,
+        _ => numbers.below(16) as u8,
+    };
+    let first = protocol << 1 | numbers.byte() & 0xE1;
+    let pair = (numbers.byte() as u16, numbers.next() as u16);
+    let control = if numbers.once_in(16) { 0x04 } else { 0x00 };
+    if numbers.once_in(3) {
+        let mut command = editions::command(first, numbers.byte(), pair, control);
+        command[8] ^= u8::from(numbers.once_in(16));
+        return command;
+    }
+    let mut command = command(numbers.once_in(2), first, numbers.byte(), pair, control);
+    for at in 5..command.len() - 1 {
+        command[at] = numbers.byte();
+    }
+    command
 }

@@ -3,6 +3,7 @@
 use crate::board::Board;
 use crate::call::{sixteen_bits, Bytes, Call, CENSUS_FEED, COMPLETE, INQUIRY};
 use crate::censuses;
+use crate::editions;
 use crate::lent;
 use crate::numbers::Numbers;
 use second::{Intake, Ports};
@@ -17,7 +18,7 @@ pub fn calls(board: &mut Board, seed: u64, count: u64, real: &[Vec<u8>]) {
             return;
         }
         let mut call = match numbers.below(116) {
-            0..=39 => submit(&mut numbers),
+            0..=39 => submit(&mut numbers, &known),
             40..=55 => complete(&mut numbers),
             56..=76 => inquiry(&mut numbers, &known),
             77..=86 => read(&mut numbers, &known),
@@ -130,10 +131,21 @@ fn block(numbers: &mut Numbers, known: &[Vec<u8>]) -> Vec<u8> {
     block
 }
 
-pub fn submit(numbers: &mut Numbers) -> Call {
-    let mut command = numbers.bytes(16);
-    command[0] = numbers.pick(&[0x85, 0xA1]);
-    let control = if command[0] == 0x85 { 15 } else { 11 };
+/// Mostly a command that is served, of any form, by either edition.
+pub fn submit(numbers: &mut Numbers, known: &[Vec<u8>]) -> Call {
+    let mut command = numbers.bytes(32);
+    command[0] = numbers.pick(&[0x85, 0xA1, 0x7F]);
+    let (flags, control) = match command[0] {
+        0x7F => (10, 1),
+        0x85 => (1, 15),
+        _ => (1, 11),
+    };
+    if command[0] == 0x7F && !numbers.once_in(8) {
+        command[7..10].copy_from_slice(&[0x18, 0x1F, 0xF0]);
+    }
+    if command[0] != 0x7F || numbers.once_in(16) {
+        command.truncate(16);
+    }
     if !numbers.once_in(8) {
         command[control] &= 0xFB;
     }
@@ -141,8 +153,8 @@ pub fn submit(numbers: &mut Numbers) -> Call {
         // A protocol with data and a T_DIR that fits it.
         let from_drive = numbers.once_in(2);
         let protocol = if from_drive { [4, 6, 10] } else { [5, 6, 11] };
-        command[1] = command[1] & 0xE1 | numbers.pick(&protocol) << 1;
-        command[2] = command[2] & 0xF7 | u8::from(from_drive) << 3;
+        command[flags] = command[flags] & 0xE1 | numbers.pick(&protocol) << 1;
+        command[flags + 1] = command[flags + 1] & 0xF7 | u8::from(from_drive) << 3;
     }
     let declared = match numbers.below(4) {
         0 => u32::MAX,
@@ -150,19 +162,44 @@ pub fn submit(numbers: &mut Numbers) -> Call {
         2 => 512 * u32::from(numbers.byte()),
         _ => u32::from(numbers.byte()),
     };
-    let mut call = lent::submit(&command, declared);
+    let mut call = lent::submit(&command, declared).edition(editions::any(numbers));
     call.pieces[1] = numbers.bytes(11);
-    call.pieces[2] = numbers.bytes(22);
+    call.pieces[2] = a_block(numbers, known);
+    call.pieces[3] = numbers.bytes(22);
     if numbers.once_in(4) {
         odd_record(&mut call, numbers);
     }
     call
 }
 
+/// None, or one with sectors of any size or of none that is told.
+fn a_block(numbers: &mut Numbers, known: &[Vec<u8>]) -> Vec<u8> {
+    if numbers.once_in(8) {
+        return Vec::new();
+    }
+    let block = block(numbers, known);
+    if numbers.once_in(3) {
+        return block;
+    }
+    let words = match numbers.below(3) {
+        0 => numbers.pick(&[0, 1, 256, 260, 2048, u32::MAX]),
+        1 => numbers.next() as u32 & 0xFFFF,
+        _ => numbers.next() as u32,
+    };
+    let mut block = lent::with_sectors(block, words);
+    if numbers.once_in(4) {
+        block[213] = numbers.byte();
+    }
+    if block[510] == 0xA5 && !numbers.once_in(8) {
+        return lent::closed(block);
+    }
+    block
+}
+
 /// A record of any bytes; its state is 0 in one of two, and else mostly one
 /// that the board leaves, with orders that a command makes.
 pub fn odd_record(call: &mut Call, numbers: &mut Numbers) {
-    let mut record = Bytes(&numbers.bytes(52)).record().unwrap_or_default();
+    let mut record = Bytes(&numbers.bytes(60)).record().unwrap_or_default();
     for order in [&mut record.order, &mut record.older] {
         order.ck_cond = numbers.pick(&[0, 1, order.ck_cond]);
         order.extend = numbers.pick(&[0, 1, order.extend]);

@@ -1,7 +1,7 @@
 //! Inputs of INQUIRY, submit and complete by the form of their sense data.
 
 use crate::board::Board;
-use crate::call::{Call, INQUIRY, SUBMIT};
+use crate::call::{Call, Stated, INQUIRY, SUBMIT};
 use crate::lent::{self, odd_record, packet, room};
 use crate::numbers::Numbers;
 use crate::{inquiries, orders, random};
@@ -58,7 +58,7 @@ pub fn numbers(board: &mut Board) {
             let refused = lent::inquiry(&[0x12, 1, 0xB0, 0, 0xFF, 0]);
             board.call(&refused.piece(7, room(size)).form(form));
             for command in [vec![], report(), orders::command(true, 7, 0x20, (0, 0), 0)] {
-                let call = lent::submit(&command, 0).piece(2, room(size));
+                let call = lent::submit(&command, 0).piece(3, room(size));
                 board.call(&call.form(form));
             }
             for status in [0x50, 0x51] {
@@ -158,16 +158,18 @@ pub fn both(board: &mut Board, seed: u64, real: &[Vec<u8>]) -> bool {
 fn a_call(numbers: &mut Numbers, real: &[Vec<u8>]) -> Call {
     let mut call = match numbers.below(3) {
         0 => random::inquiry(numbers, real),
-        1 => random::submit(numbers),
+        1 => random::submit(numbers, real),
         _ => random::complete(numbers),
     };
     if call.function == SUBMIT && numbers.once_in(2) {
-        call.pieces[0][1] |= 0x1E; // protocol 15
+        let at = if call.pieces[0][0] == 0x7F { 10 } else { 1 };
+        call.pieces[0][at] |= 0x1E; // protocol 15
     }
     let last = call.pieces.len() - 1;
+    let registers = if call.function == SUBMIT { 1 } else { 0 };
     for upper in [1, 3, 5, 7] {
         if call.function != INQUIRY && numbers.once_in(2) {
-            call.pieces[last - 1][upper] = 0;
+            call.pieces[registers][upper] = 0;
         }
     }
     let size = 22 + numbers.below(12);
@@ -179,8 +181,9 @@ fn a_call(numbers: &mut Numbers, real: &[Vec<u8>]) -> Call {
 /// the sense room, and that. The board is asked the same.
 fn left(board: &mut Board, call: &Call, form: u8) -> (Vec<u8>, Vec<u8>) {
     let mut rest = Vec::new();
-    call.answer(form, &mut rest);
-    board.call(&call.clone().form(form));
+    let edition = call.edition.unwrap_or(0);
+    call.answer(Stated { form, edition }, &mut rest);
+    board.call(&call.clone().form(form).edition(edition));
     let size = call.pieces[call.pieces.len() - 1].len();
     let sense = rest.split_off(rest.len() - size);
     (rest, sense)

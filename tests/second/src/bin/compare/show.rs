@@ -40,7 +40,8 @@ fn describe(call: &Call) -> String {
     let at = usize::from(call.function);
     let mut text = format!("  piongseut_{}\n", NAMES[at]);
     text += &format!("    declared {}, {:X?}\n", call.declared, call.record);
-    text += &format!("    form {}\n", call.form.unwrap_or(0));
+    let (form, edition) = (call.form.unwrap_or(0), call.edition.unwrap_or(0));
+    text += &format!("    form {form}, edition {edition}\n");
     text += &format!("    {:?}, {:?}\n", call.intake, call.ports);
     for (name, piece) in PIECES[at].iter().zip(&call.pieces) {
         text += &format!("    {} ({} bytes) {}\n", name, piece.len(), hex(piece));
