@@ -1,7 +1,7 @@
 /*
- * One record, lent to a long seeded run of submissions and completions, with refusals, PROTOCOL 15, drive errors, resets over orders,
- * host resets and records of other bytes between. A small model, written from docs/RULES.md, says after every step what must have
- * come back and what every lent byte must be; and a ledger, which knows nothing but what came back, says that every order that was
+ * One record, lent to a long seeded run of submissions and completions in both editions, with refusals, PROTOCOL 15, drive errors, resets
+ * over orders, host resets and records of other bytes between. A small model, written from docs/RULES.md, says after every step what must
+ * have come back and what every lent byte must be; and a ledger, which knows nothing but what came back, says that every order that was
  * taken is ended or told lost once, or is still pending.
  */
 #include "piongseut.h"
@@ -20,7 +20,8 @@ enum { NOTHING, ORDER, RESET, BOTH, PENDING };
 enum { REPORTS, RESETS, ORDERS, COMPLETES, MEETS };
 
 static uint64_t seed = 20;
-static unsigned seen[PIONGSEUT_REFUSED_NOT_A_PAGE], met[PENDING][MEETS], completions[PENDING][3], host_resets, told[2], lost_protocols[256];
+static unsigned seen[PIONGSEUT_REFUSED_SERVICE_ACTION + 1], met[PENDING][MEETS], completions[PENDING][3];
+static unsigned host_resets, told[2], lost_protocols[256];
 
 /* xorshift64: the same run on every machine. */
 static unsigned roll(unsigned below)
@@ -86,11 +87,26 @@ static void put_registers(uint8_t *sense, uint8_t form, uint8_t key, uint8_t asc
     shown[PIONGSEUT_REGISTER_LBA_HIGH_HIGH] = 0;
 }
 
-/* ---- PROTOCOL ---- */
+/* ---- The forms of a command, and PROTOCOL ---- */
+
+/* Where a form has its two flag bytes, its control byte, and its registers: of a register the upper and the lower byte. */
+typedef struct {
+    uint8_t opcode, size, flags, control, features[2], count[2], lba_low[2], lba_mid[2], lba_high[2], device, command;
+} form_of_command;
+
+static const form_of_command forms[] = {
+    {0x85, 16, 1, 15, {3, 4}, {5, 6}, {7, 8}, {9, 10}, {11, 12}, 13, 14},
+    {0x7F, 32, 10, 1, {20, 21}, {22, 23}, {16, 19}, {15, 18}, {14, 17}, 24, 25},
+};
+
+static const form_of_command *form_by(const uint8_t *command)
+{
+    return &forms[command[0] == forms[1].opcode];
+}
 
 static uint8_t protocol_of(const uint8_t *command)
 {
-    return command[1] >> 1 & 15;
+    return command[form_by(command)->flags] >> 1 & 15;
 }
 
 static int resets_drive(unsigned protocol)
@@ -175,52 +191,127 @@ static int pending(void)
     return resets_drive(model.order.protocol) ? RESET : ORDER;
 }
 
-static uint16_t wide(const uint8_t *command, int at, int extend)
+/* A submission: the command, and what the host says and lends with it. */
+typedef struct {
+    uint8_t command[32], block[PIONGSEUT_BLOCK_SIZE], edition;
+    size_t block_size;
+    uint32_t declared;
+} submitted;
+
+static int is_later(const submitted *sent)
 {
-    return (uint16_t)((extend ? command[at] << 8 : 0) | command[at + 1]);
+    return sent->edition == PIONGSEUT_EDITION_LATER;
 }
 
-/* The order of a 16-byte command, as RULES 8 reads its bytes. */
-static piongseut_order order_of(const uint8_t *command, uint32_t declared)
+static uint16_t wide(const uint8_t *command, const uint8_t *places, int extend)
 {
+    return (uint16_t)((extend ? command[places[0]] << 8 : 0) | command[places[1]]);
+}
+
+static uint32_t number_at(const uint8_t *bytes)
+{
+    return (uint32_t)bytes[0] << 24 | (uint32_t)bytes[1] << 16 | (uint32_t)bytes[2] << 8 | bytes[3];
+}
+
+/* Whether logical sectors are counted: T_TYPE and BYTE_BLOCK are one, and T_LENGTH is 1 or 2. */
+static int counts_sectors(const submitted *sent)
+{
+    const uint8_t flags = sent->command[form_by(sent->command)->flags + 1];
+    return is_later(sent) && (flags & 0x14) == 0x14 && (flags & 3) % 3 != 0;
+}
+
+/* What a count counts, in bytes: RULES 8.2. */
+static uint64_t unit_of(const submitted *sent)
+{
+    const uint8_t *block = sent->block, said = block[2 * 106 + 1];
+    const uint8_t words[4] = {block[2 * 118 + 1], block[2 * 118], block[2 * 117 + 1], block[2 * 117]};
+    if (!(sent->command[form_by(sent->command)->flags + 1] & 4)) return 1;
+    return counts_sectors(sent) && said >> 6 == 1 && (said & 0x10) ? 2 * (uint64_t)number_at(words) : 512;
+}
+
+/* The length in bytes, of which an order has the lower 32 bits: RULES 8.2. */
+static uint64_t length_of(const submitted *sent)
+{
+    const uint8_t *command = sent->command;
+    const form_of_command *form = form_by(command);
+    const unsigned extend = command[form->flags] & 1, field = command[form->flags + 1] & 3;
+    if (field == 0) return 0;
+    if (field == 3) return sent->declared;
+    return unit_of(sent) * wide(command, field == 1 ? form->features : form->count, (int)extend);
+}
+
+/* The order of a command, as RULES 8 reads its bytes. */
+static piongseut_order order_of(const submitted *sent)
+{
+    const uint8_t *command = sent->command;
+    const form_of_command *form = form_by(command);
+    const uint8_t first = command[form->flags], second = command[form->flags + 1], extend = first & 1;
     piongseut_order order;
     memset(&order, 0, sizeof order);
     order.protocol = protocol_of(command);
-    order.quiet_seconds = (uint16_t)((2 << (command[2] >> 6)) - 2);
+    order.quiet_seconds = (uint16_t)((2 << (second >> 6)) - 2);
     order.sectors_per_block = 1;
     if (resets_drive(order.protocol)) return order;
-    const uint8_t extend = command[1] & 1, field = command[2] & 3;
+    order.length = (uint32_t)length_of(sent);
+    order.auxiliary = form->size == 32 ? number_at(command + 28) : 0;
     order.extend = extend;
-    order.sectors_per_block = (uint16_t)(1 << (command[1] >> 5));
-    order.ck_cond = command[2] >> 5 & 1;
-    order.features = wide(command, 3, extend);
-    order.count = wide(command, 5, extend);
-    order.lba_low = wide(command, 7, extend);
-    order.lba_mid = wide(command, 9, extend);
-    order.lba_high = wide(command, 11, extend);
-    order.device = command[13];
-    order.command = command[14];
-    if (field == 3) order.length = declared;
-    else if (field != 0) order.length = (field == 1 ? order.features : order.count) * (command[2] & 4 ? 512u : 1u);
-    if (field != 0) order.direction = command[2] & 8 ? PIONGSEUT_DIRECTION_FROM_DRIVE : PIONGSEUT_DIRECTION_TO_DRIVE;
+    order.sectors_per_block = (uint16_t)(1 << (first >> 5));
+    order.ck_cond = second >> 5 & 1;
+    order.features = wide(command, form->features, extend);
+    order.count = wide(command, form->count, extend);
+    order.lba_low = wide(command, form->lba_low, extend);
+    order.lba_mid = wide(command, form->lba_mid, extend);
+    order.lba_high = wide(command, form->lba_high, extend);
+    order.device = command[form->device];
+    order.command = command[form->command];
+    if (second & 3) order.direction = second & 8 ? PIONGSEUT_DIRECTION_FROM_DRIVE : PIONGSEUT_DIRECTION_TO_DRIVE;
     return order;
 }
 
-/* The refusal's number of a 16-byte command. */
-static uint8_t refusal(const uint8_t *command, uint32_t declared)
+static int damaged(const submitted *sent)
 {
-    const unsigned protocol = protocol_of(command), field = command[2] & 3, from_drive = command[2] >> 3 & 1;
-    if (command[15] & 4) return PIONGSEUT_REFUSED_FIELD;
+    uint8_t sum = 0;
+    for (size_t at = 0; at < sent->block_size; at++) sum = (uint8_t)(sum + sent->block[at]);
+    return sent->block_size == PIONGSEUT_BLOCK_SIZE && sent->block[510] == 0xA5 && sum != 0;
+}
+
+/* Of an order with data, the refusal's number by its direction and length. */
+static uint8_t refused_length(const submitted *sent)
+{
+    const unsigned protocol = protocol_of(sent->command), from_drive = sent->command[form_by(sent->command)->flags + 1] >> 3 & 1;
+    if (from_drive ? only_to_drive(protocol) : only_from_drive(protocol)) return PIONGSEUT_REFUSED_T_DIR;
+    if (counts_sectors(sent) && sent->block_size == 0) return PIONGSEUT_REFUSED_NO_BLOCK;
+    if (length_of(sent) == 0) return PIONGSEUT_REFUSED_LENGTH_ZERO;
+    return length_of(sent) > sent->declared ? PIONGSEUT_REFUSED_ABOVE_DECLARED : PIONGSEUT_ACCEPTED;
+}
+
+/* The refusal's number. */
+static uint8_t refusal(const submitted *sent)
+{
+    const uint8_t *command = sent->command;
+    const form_of_command *form = form_by(command);
+    const unsigned protocol = protocol_of(command), field = command[form->flags + 1] & 3;
+    if (is_later(sent) && damaged(sent)) return PIONGSEUT_REFUSED_DAMAGED;
+    if (form->size == 32 && !is_later(sent)) return PIONGSEUT_REFUSED_OPCODE;
+    if (command[form->control] & 4) return PIONGSEUT_REFUSED_FIELD;
+    if (form->size == 32 && memcmp(command + 7, "\x18\x1F\xF0", 3) != 0) return PIONGSEUT_REFUSED_SERVICE_ACTION;
     if (!served(protocol)) return PIONGSEUT_REFUSED_PROTOCOL;
     if (protocol == PIONGSEUT_PROTOCOL_RETURN_RESPONSE_INFORMATION) return PIONGSEUT_ACCEPTED;
     if (pending() != NOTHING && !(pending() == ORDER && resets_drive(protocol))) return PIONGSEUT_REFUSED_PENDING;
     if (resets_drive(protocol)) return PIONGSEUT_ACCEPTED;
     if (moves_no_data(protocol) != (field == 0)) return PIONGSEUT_REFUSED_T_LENGTH;
-    if (moves_no_data(protocol)) return PIONGSEUT_ACCEPTED;
-    if (from_drive ? only_to_drive(protocol) : only_from_drive(protocol)) return PIONGSEUT_REFUSED_T_DIR;
-    const piongseut_order order = order_of(command, declared);
-    if (order.length == 0) return PIONGSEUT_REFUSED_LENGTH_ZERO;
-    return order.length > declared ? PIONGSEUT_REFUSED_ABOVE_DECLARED : PIONGSEUT_ACCEPTED;
+    return moves_no_data(protocol) ? PIONGSEUT_ACCEPTED : refused_length(sent);
+}
+
+/* The status of a refusal, and the sense data that it leaves: RULES 3. */
+static uint8_t refuse(uint8_t number, uint8_t form, uint8_t *wanted)
+{
+    if (number == PIONGSEUT_REFUSED_PENDING) return PIONGSEUT_BUSY;
+    if (number == PIONGSEUT_REFUSED_DAMAGED) return PIONGSEUT_NONE;
+    if (number == PIONGSEUT_REFUSED_OPCODE) put_sense(wanted, form, 0x05, 0x20, 0x00);
+    else if (number == PIONGSEUT_REFUSED_NO_BLOCK) put_sense(wanted, form, 0x02, 0x04, 0x00);
+    else put_sense(wanted, form, 0x05, 0x24, 0x00);
+    return PIONGSEUT_CHECK_CONDITION;
 }
 
 /* Puts an accepted order into the model: by itself, or a reset over the order that is there. */
@@ -251,7 +342,7 @@ static void meet(unsigned protocol)
 /* ---- The run ---- */
 
 /* A command with each field drawn, most often one that can be taken. */
-static void draw(uint8_t *command)
+static void draw_command(uint8_t *command)
 {
     static const uint8_t protocols[] = {
         PIONGSEUT_PROTOCOL_NON_DATA,           PIONGSEUT_PROTOCOL_PIO_DATA_IN,
@@ -260,42 +351,71 @@ static void draw(uint8_t *command)
         PIONGSEUT_PROTOCOL_DEVICE_RESET,       PIONGSEUT_PROTOCOL_EXECUTE_DEVICE_DIAGNOSTIC,
         PIONGSEUT_PROTOCOL_UDMA_DATA_IN,       PIONGSEUT_PROTOCOL_UDMA_DATA_OUT,
     };
-    for (int at = 0; at < 16; at++) command[at] = (uint8_t)(roll(3) ? roll(256) : 0);
-    command[0] = 0x85;
-    command[15] = roll(20) ? 0 : 4;
+    const form_of_command *form = &forms[roll(3) == 0];
+    uint8_t *flags = command + form->flags;
+    for (int at = 0; at < 32; at++) command[at] = (uint8_t)(roll(3) ? roll(256) : 0);
+    command[0] = form->opcode;
+    if (form->size == 32) memcpy(command + 7, "\x18\x1F\xF0", 3);
+    if (form->size == 32 && roll(20) == 0) command[7 + roll(3)] ^= 1;
+    command[form->control] = roll(20) ? 0 : 4;
     const unsigned protocol = roll(4) ? protocols[roll(sizeof protocols)] : roll(16);
-    command[1] = (uint8_t)((command[1] & 0xE1) | protocol << 1);
+    flags[0] = (uint8_t)((flags[0] & 0xE1) | protocol << 1);
     if (roll(8) == 0) return;
-    command[2] &= 0xF4;
-    if (!moves_no_data(protocol)) command[2] |= (uint8_t)(1 + roll(3));
-    if (only_from_drive(protocol)) command[2] |= 8;
-    if (only_to_drive(protocol)) command[2] &= 0xF7;
+    flags[1] &= 0xF4;
+    if (!moves_no_data(protocol)) flags[1] |= (uint8_t)(1 + roll(3));
+    if (only_from_drive(protocol)) flags[1] |= 8;
+    if (only_to_drive(protocol)) flags[1] &= 0xF7;
 }
+
+/* A block, most often of a drive that tells the size of its sectors; in the first edition bytes of any number, which are no block. */
+static void draw_block(submitted *sent)
+{
+    static const uint32_t words[] = {0, 256, 260, 2048, 0x10000, 0x80000000, 0xFFFFFFFF};
+    const uint32_t size = words[roll(sizeof words / sizeof *words)];
+    memset(sent->block, 0, sizeof sent->block);
+    sent->block[2 * 106 + 1] = (uint8_t)(roll(4) ? 0x50 : roll(256));
+    for (int at = 0; at < 4; at++) sent->block[2 * 117 + at] = (uint8_t)(size >> (8 * at));
+    if (roll(20) == 0) sent->block[510] = 0xA5;
+    sent->block_size = roll(6) ? sizeof sent->block : is_later(sent) ? 0 : roll(sizeof sent->block);
+}
+
+static void draw(submitted *sent)
+{
+    draw_command(sent->command);
+    sent->edition = (uint8_t)(roll(2) ? PIONGSEUT_EDITION_LATER : roll(2) ? PIONGSEUT_EDITION_FIRST : roll(256));
+    sent->declared = roll(4) ? 0x02000000 : roll(1024);
+    draw_block(sent);
+}
+
+/* Orders that carry an auxiliary number, and those whose length is of logical sectors that have not 512 bytes. */
+static unsigned auxiliaries, sectors;
 
 static int submission(piongseut_record *record, const uint8_t *registers)
 {
-    uint8_t command[16], sense[SENSE], wanted[SENSE];
-    const uint32_t declared = roll(4) ? 0x02000000 : roll(1024);
+    uint8_t sense[SENSE], wanted[SENSE], status = PIONGSEUT_NONE;
+    submitted sent;
     const uint8_t form = draw_form();
-    draw(command);
+    draw(&sent);
     memset(sense, FILL, SENSE);
     memset(wanted, FILL, SENSE);
-    const uint8_t number = refusal(command, declared);
+    const uint8_t number = refusal(&sent), protocol = protocol_of(sent.command);
     const piongseut_submit_answer got =
-        piongseut_submit(record, command, sizeof command, registers, PIONGSEUT_REGISTERS_SIZE, declared, form, sense, SENSE);
+        piongseut_submit(record, sent.command, form_by(sent.command)->size, registers, PIONGSEUT_REGISTERS_SIZE, sent.block,
+                         sent.block_size, sent.declared, sent.edition, form, sense, SENSE);
     piongseut_order order;
     memset(&order, 0, sizeof order);
-    uint8_t status = number == PIONGSEUT_REFUSED_PENDING ? PIONGSEUT_BUSY : PIONGSEUT_CHECK_CONDITION;
     seen[number]++;
-    if (number == PIONGSEUT_ACCEPTED || number == PIONGSEUT_REFUSED_PENDING) meet(protocol_of(command));
+    if (number == PIONGSEUT_ACCEPTED || number == PIONGSEUT_REFUSED_PENDING) meet(protocol);
     if (number != PIONGSEUT_ACCEPTED) {
-        if (status == PIONGSEUT_CHECK_CONDITION) put_sense(wanted, form, 0x05, 0x24, 0x00);
-    } else if (protocol_of(command) == PIONGSEUT_PROTOCOL_RETURN_RESPONSE_INFORMATION) {
+        status = refuse(number, form, wanted);
+    } else if (protocol == PIONGSEUT_PROTOCOL_RETURN_RESPONSE_INFORMATION) {
+        status = PIONGSEUT_CHECK_CONDITION;
         put_registers(wanted, form, 0x01, 0x1D, 0, registers);
     } else {
-        status = PIONGSEUT_NONE;
-        order = order_of(command, declared);
+        order = order_of(&sent);
         hold(&order);
+        auxiliaries += order.auxiliary != 0;
+        sectors += order.length != 0 && counts_sectors(&sent) && unit_of(&sent) != 512;
     }
     if (got.number == PIONGSEUT_ACCEPTED && got.status == PIONGSEUT_NONE && !enter(got.order.protocol)) return 0;
     return got.number == number && got.status == status && memcmp(&got.order, &order, sizeof order) == 0 &&
@@ -382,7 +502,8 @@ static void reset_by_host(piongseut_record *record)
 /* Nothing that a run is there to show may be missing from it. */
 static int shown_all(void)
 {
-    if (seen[PIONGSEUT_REFUSED_FIELD] == 0) return 0;
+    if (!seen[PIONGSEUT_REFUSED_OPCODE] || !seen[PIONGSEUT_REFUSED_FIELD] || !seen[PIONGSEUT_REFUSED_NO_BLOCK]) return 0;
+    if (!seen[PIONGSEUT_REFUSED_DAMAGED] || !seen[PIONGSEUT_REFUSED_SERVICE_ACTION] || !auxiliaries || !sectors) return 0;
     for (int number = PIONGSEUT_REFUSED_PROTOCOL; number <= PIONGSEUT_REFUSED_NOTHING_PENDING; number++)
         if (seen[number] == 0) return 0;
     for (int found = NOTHING; found < PENDING; found++)
@@ -421,9 +542,9 @@ int main(int count, char **words)
         printf("not ok the run leaves out something that it is there to show\n");
         return 1;
     }
-    printf("ok %ld steps through one lent record: %u orders (%u ended, %u lost, %u dropped by the host, %u pending), %u busy, %u errors, "
-           "%u host resets, %u fixed and %u descriptor sense\n",
+    printf("ok %ld steps through one lent record: %u orders (%u ended, %u lost, %u dropped by the host, %u pending), %u busy, "
+           "%u errors, %u host resets, %u fixed and %u descriptor sense, %u auxiliary numbers, %u lengths of sectors\n",
            steps, taken_orders, ended_orders, lost_orders, dropped_orders, orders_in(&record), seen[PIONGSEUT_REFUSED_PENDING],
-           completions[ORDER][0] + completions[RESET][0] + completions[BOTH][0], host_resets, told[1], told[0]);
+           completions[ORDER][0] + completions[RESET][0] + completions[BOTH][0], host_resets, told[1], told[0], auxiliaries, sectors);
     return 0;
 }

@@ -171,8 +171,8 @@ static void c6_refused(unsigned at, uint8_t value, uint32_t declared, uint8_t nu
     prepare();
     command[at] = value;
     piongseut_submit_answer answer =
-        piongseut_submit(&record, command, sizeof command, registers, sizeof registers, declared, PIONGSEUT_SENSE_UNSTATED, sense,
-                         sizeof sense);
+        piongseut_submit(&record, command, sizeof command, registers, sizeof registers, block, 0, declared, PIONGSEUT_EDITION_FIRST,
+                         PIONGSEUT_SENSE_UNSTATED, sense, sizeof sense);
     check(answer.number == number && answer.status == PIONGSEUT_CHECK_CONDITION &&
               memcmp(&answer.order, &empty.order, sizeof empty.order) == 0 && memcmp(&record, &empty, sizeof empty) == 0,
           what);
@@ -187,11 +187,11 @@ static void refused_orders(void)
     c6_refused(1, 0x04, 512, PIONGSEUT_REFUSED_PROTOCOL, "C11: PROTOCOL 2, 9");
 }
 
-/* A command that is submitted to the record, with 512 bytes declared. */
+/* A command that is submitted to the record by the first edition, which is lent no block, with 512 bytes declared. */
 static piongseut_submit_answer submit(piongseut_record *record, const uint8_t *command, size_t size)
 {
-    return piongseut_submit(record, command, size, registers, sizeof registers, 512, PIONGSEUT_SENSE_DESCRIPTOR, sense,
-                            sizeof sense);
+    return piongseut_submit(record, command, size, registers, sizeof registers, block, 0, 512, PIONGSEUT_EDITION_FIRST,
+                            PIONGSEUT_SENSE_DESCRIPTOR, sense, sizeof sense);
 }
 
 static piongseut_complete_answer complete(piongseut_record *record)
@@ -374,10 +374,12 @@ static void refused_in_fixed(uint8_t form, const char *inquiry, const char *subm
     check(answer.number == PIONGSEUT_REFUSED_PAGE && answer.status == PIONGSEUT_CHECK_CONDITION && fixed_sense(wanted), inquiry);
     prepare();
     piongseut_submit_answer taken =
-        piongseut_submit(&record, c11, sizeof c11, registers, sizeof registers, 512, form, sense, sizeof sense);
+        piongseut_submit(&record, c11, sizeof c11, registers, sizeof registers, block, 0, 512, PIONGSEUT_EDITION_FIRST, form, sense,
+                         sizeof sense);
     check(taken.number == PIONGSEUT_REFUSED_PROTOCOL && taken.status == PIONGSEUT_CHECK_CONDITION && fixed_sense(wanted), submission);
     prepare();
-    taken = piongseut_submit(&record, c11, sizeof c11, registers, sizeof registers, 512, form, sense, PIONGSEUT_SENSE_SIZE - 1);
+    taken = piongseut_submit(&record, c11, sizeof c11, registers, sizeof registers, block, 0, 512, PIONGSEUT_EDITION_FIRST, form, sense,
+                             PIONGSEUT_SENSE_SIZE - 1);
     check(taken.number == PIONGSEUT_REFUSED_SIZE && taken.status == PIONGSEUT_NONE && untouched(sense, sizeof sense),
           "the fixed form in sense room of 21 bytes, 1");
 }
@@ -409,7 +411,8 @@ static void fixed_places(uint8_t form, const uint8_t *said)
               memcmp(&record, &empty, sizeof record) == 0 && fixed_sense(with_extend),
           "the registers in the fixed form, with EXTEND");
     prepare();
-    answer = piongseut_submit(&record, report, sizeof report, said, PIONGSEUT_REGISTERS_SIZE, 0, form, sense, sizeof sense);
+    answer = piongseut_submit(&record, report, sizeof report, said, PIONGSEUT_REGISTERS_SIZE, block, 0, 0, PIONGSEUT_EDITION_FIRST, form,
+                              sense, sizeof sense);
     check(answer.number == PIONGSEUT_ACCEPTED && answer.status == PIONGSEUT_CHECK_CONDITION && fixed_sense(without),
           "PROTOCOL 15 in the fixed form, without EXTEND");
 }
@@ -450,15 +453,106 @@ static void longest_order(void)
     piongseut_record record = piongseut_record_empty();
     prepare();
     piongseut_submit_answer answer =
-        piongseut_submit(&record, command, sizeof command, registers, sizeof registers, UINT32_MAX, PIONGSEUT_SENSE_UNSTATED,
-                         sense, sizeof sense);
+        piongseut_submit(&record, command, sizeof command, registers, sizeof registers, block, 0, UINT32_MAX, PIONGSEUT_EDITION_FIRST,
+                         PIONGSEUT_SENSE_UNSTATED, sense, sizeof sense);
     check(answer.number == PIONGSEUT_ACCEPTED && answer.order.length == 33553920 && answer.order.extend == 1,
           "EXTEND, count FFFFh: 33,553,920 bytes");
     record = piongseut_record_empty();
-    answer = piongseut_submit(&record, command, sizeof command, registers, PIONGSEUT_REGISTERS_SIZE - 1, UINT32_MAX,
-                              PIONGSEUT_SENSE_UNSTATED, sense, sizeof sense);
+    answer = piongseut_submit(&record, command, sizeof command, registers, PIONGSEUT_REGISTERS_SIZE - 1, block, 0, UINT32_MAX,
+                              PIONGSEUT_EDITION_FIRST, PIONGSEUT_SENSE_UNSTATED, sense, sizeof sense);
     check(answer.number == PIONGSEUT_REFUSED_SIZE && answer.status == PIONGSEUT_NONE && record.state == PIONGSEUT_STATE_NOTHING,
           "ten registers, 1");
+}
+
+/* A read of 65,535 sectors by the 32-byte command, with T_TYPE, and all that it can carry. */
+static const uint8_t long_read[32] = {0x7F, 0, 0, 0, 0, 0, 0, 0x18, 0x1F, 0xF0, PIONGSEUT_PROTOCOL_DMA << 1 | 1, 0x1E,
+                                      0,    0, 6, 4, 2, 5, 3, 1,    8,    7,    0xFF,                            0xFF,
+                                      0x40, 0x25, 0, 0, 0x12, 0x34, 0x56, 0x78};
+
+/* The block with logical sectors of twice so many bytes. */
+static void put_sectors(uint32_t words)
+{
+    block[213] = 0x50; /* word 106 says that words 117 and 118 tell it */
+    for (unsigned at = 0; at < 4; at++)
+        block[234 + at] = (uint8_t)(words >> (8 * at));
+}
+
+/* What comes of a command in this edition, with nothing pending, as much declared as can be, and the block that is there. */
+static piongseut_submit_answer submit_in(uint8_t edition, const uint8_t *command, size_t size, size_t block_size)
+{
+    piongseut_record record = piongseut_record_empty();
+    memset(sense, FILL, sizeof sense);
+    return piongseut_submit(&record, command, size, registers, sizeof registers, block, block_size, UINT32_MAX, edition,
+                            PIONGSEUT_SENSE_DESCRIPTOR, sense, sizeof sense);
+}
+
+static void long_command(void)
+{
+    uint8_t command[32];
+    prepare();
+    put_sectors(2048);
+    piongseut_submit_answer answer = submit_in(PIONGSEUT_EDITION_LATER, long_read, sizeof long_read, sizeof block);
+    check(answer.number == PIONGSEUT_ACCEPTED && answer.order.auxiliary == 0x12345678 && answer.order.features == 0x0807 &&
+              answer.order.lba_low == 0x0201 && answer.order.lba_mid == 0x0403 && answer.order.lba_high == 0x0605 &&
+              answer.order.device == 0x40 && answer.order.command == 0x25 && answer.order.extend == 1,
+          "the 32-byte command, field by field");
+    check(answer.order.length == 268431360, "65,535 sectors of 4096 bytes are taken");
+    answer = submit_in(PIONGSEUT_EDITION_LATER, long_read, sizeof long_read - 1, sizeof block);
+    check(answer.number == PIONGSEUT_REFUSED_SHORT, "31 bytes of it, 2");
+    memcpy(command, long_read, sizeof command);
+    command[9] = 0xF1;
+    answer = submit_in(PIONGSEUT_EDITION_LATER, command, sizeof command, sizeof block);
+    check(answer.number == PIONGSEUT_REFUSED_SERVICE_ACTION && answer.status == PIONGSEUT_CHECK_CONDITION && sense[1] == 0x05 &&
+              sense[2] == 0x24 && untouched(sense + 8, sizeof sense - 8),
+          "another service action, 20");
+    command[1] = 0x04;
+    answer = submit_in(PIONGSEUT_EDITION_LATER, command, sizeof command, sizeof block);
+    check(answer.number == PIONGSEUT_REFUSED_FIELD, "NACA in byte 1, before that, 4");
+    answer = submit_in(PIONGSEUT_EDITION_FIRST, long_read, sizeof long_read, sizeof block);
+    check(answer.number == PIONGSEUT_REFUSED_OPCODE && sense[2] == 0x20, "the 32-byte command in the first edition, 3");
+}
+
+/* Sectors of this size are refused with 14: their product is compared as it is. */
+static void product_refused(uint32_t words, uint8_t count, const char *what)
+{
+    uint8_t command[32];
+    memcpy(command, long_read, sizeof command);
+    if (count != 0) {
+        command[22] = 0;
+        command[23] = count;
+    }
+    prepare();
+    put_sectors(words);
+    const piongseut_submit_answer answer = submit_in(PIONGSEUT_EDITION_LATER, command, sizeof command, sizeof block);
+    check(answer.number == PIONGSEUT_REFUSED_ABOVE_DECLARED && answer.order.length == 0, what);
+}
+
+static void sectors(void)
+{
+    static const uint8_t read[16] = {0x85, PIONGSEUT_PROTOCOL_DMA << 1, 0x1E, 0, 0, 0, 2, 0, 0, 0, 0, 0, 0, 0x40, 0xC8, 0};
+    product_refused(UINT32_MAX, 0, "65,535 sectors of 8,589,934,590 bytes, 14");
+    product_refused(UINT32_MAX, 1, "one sector of 8,589,934,590 bytes, 14");
+    product_refused(0x80000000, 1, "one sector of 2 to the power 32 bytes, 14");
+    product_refused(0x40000000, 2, "two sectors of 2 to the power 31 bytes, 14");
+    prepare();
+    put_sectors(2048);
+    check(submit_in(PIONGSEUT_EDITION_LATER, read, sizeof read, sizeof block).order.length == 8192, "T_TYPE: two sectors of 4096 bytes");
+    check(submit_in(PIONGSEUT_EDITION_FIRST, read, sizeof read, sizeof block).order.length == 1024, "in the first edition, two of 512");
+    check(submit_in(0, read, sizeof read, 0).order.length == 1024, "no edition stated: the first, without a block");
+    check(submit_in(3, read, sizeof read, 7).order.length == 1024, "a number that is no edition: the first, with no block of 7 bytes");
+    piongseut_submit_answer answer = submit_in(PIONGSEUT_EDITION_LATER, read, sizeof read, 0);
+    check(answer.number == PIONGSEUT_REFUSED_NO_BLOCK && sense[1] == 0x02 && sense[2] == 0x04, "sectors of a drive without a block, 6");
+    answer = submit_in(PIONGSEUT_EDITION_LATER, read, sizeof read, sizeof block - 1);
+    check(answer.number == PIONGSEUT_REFUSED_SIZE && answer.status == PIONGSEUT_NONE, "a block of 511 bytes in the later edition, 1");
+    block[510] = 0xA5;
+    answer = submit_in(PIONGSEUT_EDITION_LATER, read, sizeof read, sizeof block);
+    check(answer.number == PIONGSEUT_REFUSED_DAMAGED && answer.status == PIONGSEUT_NONE && untouched(sense, sizeof sense),
+          "a damaged block in the later edition, 18");
+    check(submit_in(PIONGSEUT_EDITION_FIRST, read, sizeof read, sizeof block).number == PIONGSEUT_ACCEPTED, "in the first it is not seen");
+    put_sectors(0);
+    block[510] = 0;
+    answer = submit_in(PIONGSEUT_EDITION_LATER, read, sizeof read, sizeof block);
+    check(answer.number == PIONGSEUT_REFUSED_LENGTH_ZERO, "sectors of 0 bytes, 13");
 }
 
 /* A command of PROTOCOL, with blocks by the count where it has data, is taken as an order of the same protocol and direction. */
@@ -838,6 +932,8 @@ int main(void)
     register_places();
     fixed_refusals();
     longest_order();
+    long_command();
+    sectors();
     protocols();
     pages83();
     ports83();
