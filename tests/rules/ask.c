@@ -88,9 +88,9 @@ static void say_piece(const char *name, piece said)
 
 static void say_order(const char *whose, piongseut_order order)
 {
-    printf("%s length:%lu;features:%u;count:%u;lba_low:%u;lba_mid:%u;lba_high:%u;quiet_seconds:%u;sectors_per_block:%u;", whose,
-           (unsigned long)order.length, order.features, order.count, order.lba_low, order.lba_mid, order.lba_high,
-           order.quiet_seconds, order.sectors_per_block);
+    printf("%s length:%lu;auxiliary:%lu;features:%u;count:%u;lba_low:%u;lba_mid:%u;lba_high:%u;", whose, (unsigned long)order.length,
+           (unsigned long)order.auxiliary, order.features, order.count, order.lba_low, order.lba_mid, order.lba_high);
+    printf("quiet_seconds:%u;sectors_per_block:%u;", order.quiet_seconds, order.sectors_per_block);
     printf("device:%u;command:%u;protocol:%u;ck_cond:%u;extend:%u;direction:%u ", order.device, order.command, order.protocol,
            order.ck_cond, order.extend, order.direction);
 }
@@ -160,11 +160,12 @@ static void inquiry(void)
 static void submit(void)
 {
     piongseut_record record = next_record();
-    piece command = next_piece(), registers = next_piece();
-    unsigned long declared = next_number(), form = next_number();
+    piece command = next_piece(), registers = next_piece(), block = next_piece();
+    unsigned long declared = next_number(), edition = next_number(), form = next_number();
     piece sense = next_piece();
-    piongseut_submit_answer answer = piongseut_submit(&record, command.bytes, command.size, registers.bytes, registers.size,
-                                                      (uint32_t)declared, (uint8_t)form, sense.bytes, sense.size);
+    piongseut_submit_answer answer =
+        piongseut_submit(&record, command.bytes, command.size, registers.bytes, registers.size, block.bytes, block.size,
+                         (uint32_t)declared, (uint8_t)edition, (uint8_t)form, sense.bytes, sense.size);
     say("number", answer.number);
     say("status", answer.status);
     say_order("order", answer.order);
@@ -172,6 +173,7 @@ static void submit(void)
     say_piece("sense", sense);
     free(command.bytes);
     free(registers.bytes);
+    free(block.bytes);
 }
 
 static void complete(void)

@@ -12,9 +12,11 @@ import sys
 FILL = 0xEE
 ROW_FILL = 0xEEEE
 START = {"block": "512 zero", "signature": "20 zero", "texts": "28 zero", "registers": "11 zero", "reply": "none", "ports": "none",
-         "port": "0", "address": "none", "declared": "0", "form": "2", "room": "600", "sense room": "24", "rows": "64", "run": "none"}
+         "port": "0", "address": "none", "declared": "0", "edition": "first", "form": "2", "room": "600", "sense room": "24",
+         "rows": "64", "run": "none"}
 OTHER_NAMES = ("command", "page", "blocks", "input", "haves", "stores", "have", "census")
 PROGRAMS = ("rollcall", "census")
+EDITIONS = {"first": 1, "later": 2}
 
 Step = collections.namedtuple("Step", "entry lent wanted")
 Case = collections.namedtuple("Case", "name line text steps")
@@ -77,8 +79,8 @@ def read_order(text):
     return order
 
 
-ORDER_FIELDS = ("length features count lba_low lba_mid lba_high quiet_seconds sectors_per_block device command protocol ck_cond"
-                " extend direction").split()
+ORDER_FIELDS = ("length auxiliary features count lba_low lba_mid lba_high quiet_seconds sectors_per_block device command protocol"
+                " ck_cond extend direction").split()
 
 
 def read_census(text):
@@ -250,6 +252,11 @@ class Trial:
         """Which ports, the number of the relative one, and the address of the SAS one."""
         return read_ports(self.lent["ports"]), read_number(self.lent["port"]), self.bytes("address")
 
+    def edition(self):
+        """By its name, or a number, which need not be one of an edition."""
+        text = self.lent["edition"]
+        return EDITIONS[text] if text in EDITIONS else read_number(text)
+
     def step(self, step):
         self.lent.update(step.lent)
         if "have" in step.lent:
@@ -318,7 +325,8 @@ class Trial:
 
     def submit(self):
         sense, before, pending = self.sense(), self.record, self.held
-        got = self.board.call("submit", before, self.bytes("command"), self.bytes("registers"), int(self.lent["declared"]), self.form(), sense)
+        pieces = map(self.bytes, ("command", "registers", "block"))
+        got = self.board.call("submit", before, *pieces, int(self.lent["declared"]), self.edition(), self.form(), sense)
         self.record, self.held = got["record"], got["held"]
         def always(named):
             self.told(named, sense, got)
@@ -500,8 +508,8 @@ def entries():
 def page_checks(text, table, cases):
     tried = {step.entry for case in cases for step in case.steps}
     names = {word for case in cases for word in re.findall(r"^C\d+", case.name)}
-    yield "the table has a row for each number from 1 to 19", sorted(set(range(1, 20)) ^ set(table))
-    yield "every number has an example", sorted(set(range(20)) - numbers_in(cases))
+    yield "the table has a row for each number from 1 to 20", sorted(set(range(1, 21)) ^ set(table))
+    yield "every number has an example", sorted(set(range(21)) - numbers_in(cases))
     yield "every entry has an example", sorted((entries() | set(PROGRAMS)) - tried)
     yield "C1 to C13 are among the examples", sorted({"C%d" % n for n in range(1, 14)} - names)
     yield "every definition that the page names is there", list(undefined(text))
