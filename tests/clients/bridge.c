@@ -83,6 +83,8 @@ static void log_command(const exchange *x, const char *who)
     fprintf(out, "%s ", who);
     put_hex(out, x->command, x->command_size);
     fprintf(out, " number=%u status=%02x moved=%zu ", x->number, x->status, x->moved);
+    if (x->auxiliary)
+        fprintf(out, "auxiliary=%08x ", (unsigned)x->auxiliary);
     if (x->lost)
         fprintf(out, "lost=%u ", x->lost_protocol);
     fprintf(out, "sense=");
@@ -115,10 +117,11 @@ static void pass_through(bay *b, exchange *x)
 {
     drive *d = &b->drive;
     piongseut_submit_answer s = piongseut_submit(
-        &b->record, x->command, x->command_size, d->registers, sizeof d->registers,
-        (uint32_t)x->declared, d->form, x->sense, sizeof x->sense);
+        &b->record, x->command, x->command_size, d->registers, sizeof d->registers, d->identify,
+        d->identify_size, (uint32_t)x->declared, d->edition, d->form, x->sense, sizeof x->sense);
     x->number = s.number;
     x->status = s.status;
+    x->auxiliary = s.order.auxiliary;
     if (s.number != PIONGSEUT_ACCEPTED || s.status != PIONGSEUT_NONE)
         return;
     if (s.order.length > x->declared)
@@ -139,11 +142,14 @@ static void pass_through(bay *b, exchange *x)
 }
 
 /* On a packet drive A1h is the drive's own command BLANK, and so are all others but
-   INQUIRY and 85h: they are the drive's to answer, and this one knows none of them. */
+   INQUIRY, 85h and in the later edition 7Fh: they are the drive's to answer, and this one
+   knows none of them. */
 static int drive_answers(const bay *b, exchange *x)
 {
     static const uint8_t unknown[PIONGSEUT_REFUSAL_SENSE_SIZE] = {0x72, 0x05, 0x20};
-    if (!b->drive.packet || x->command[0] == INQUIRY || x->command[0] == PASS_THROUGH_16)
+    int later = b->drive.edition == PIONGSEUT_EDITION_LATER;
+    if (!b->drive.packet || x->command[0] == INQUIRY || x->command[0] == PASS_THROUGH_16 ||
+        (later && x->command[0] == PASS_THROUGH_32))
         return 0;
     x->status = PIONGSEUT_CHECK_CONDITION;
     memcpy(x->sense, unknown, sizeof unknown);

@@ -1,5 +1,5 @@
-/* The simulated drive: IDENTIFY DEVICE, SMART, CHECK POWER MODE, READ LOG EXT and SET
-   FEATURES, enough for disk utilities to do their work. Every other command is aborted. */
+/* The simulated drive: IDENTIFY DEVICE, SMART, CHECK POWER MODE, READ LOG EXT, SET
+   FEATURES and READ SECTOR(S), enough for disk utilities to do their work. Every other command is aborted. */
 #include "drive.h"
 
 #include <stdio.h>
@@ -7,6 +7,9 @@
 #include <string.h>
 
 enum { STATUS_GOOD = 0x50, STATUS_ERROR = 0x51, ERROR_ABORT = 0x04 };
+
+/* The most data that a command has. */
+enum { PAGE = 8 * 4096 };
 
 /* Real drives leave old values in the upper bytes after a 28-bit command. */
 enum { LEFT_OVER = 0xA5 };
@@ -49,6 +52,15 @@ static void put_name(uint8_t *block, unsigned long long name)
         block[2 * (108 + i)] = (uint8_t)(name >> (48 - 16 * i));
         block[2 * (108 + i) + 1] = (uint8_t)(name >> (56 - 16 * i));
     }
+}
+
+/* Words 106, 117 and 118, from RULES 5 likewise: the size is told in words of two bytes. */
+static void put_sector(drive *d, unsigned long size)
+{
+    d->sector = size;
+    d->identify[2 * 106 + 1] = 0x50;
+    for (size_t i = 0; i < 4; i++)
+        d->identify[2 * 117 + i] = (uint8_t)(size / 2 >> (8 * i));
 }
 
 static int read_block(drive *d, const char *folder, const char *file)
@@ -119,6 +131,12 @@ static int property(drive *d, const char *folder, const char *key, const char *v
         d->loose = 1;
     else if (!strcmp(key, "hangs"))
         d->hangs = (uint8_t)strtoul(value, NULL, 16);
+    else if (!strcmp(key, "sector"))
+        put_sector(d, strtoul(value, NULL, 10));
+    else if (!strcmp(key, "edition") && !strcmp(value, "first"))
+        d->edition = PIONGSEUT_EDITION_FIRST;
+    else if (!strcmp(key, "edition") && !strcmp(value, "later"))
+        d->edition = PIONGSEUT_EDITION_LATER;
     else if (!strcmp(key, "kind") && !strcmp(value, "packet"))
         become_packet(d);
     else if (!strcmp(key, "sense") && !strcmp(value, "fixed"))
@@ -161,6 +179,8 @@ int drive_describe(drive *d, const char *text, const char *folder, char *complai
     char line[256], key[16], value[128];
     memset(d, 0, sizeof *d);
     d->power = 0xFF;
+    d->sector = 512;
+    d->edition = PIONGSEUT_EDITION_FIRST;
     d->form = PIONGSEUT_SENSE_DESCRIPTOR; /* what a host bridge for Linux asks for: RULES 10 */
     for (int number = 0; *text; number++) {
         size_t length = strcspn(text, "\n");
@@ -215,6 +235,17 @@ static size_t smart_thresholds(uint8_t *page)
     }
     close_block(page);
     return 512;
+}
+
+/* Sectors of which all bytes are the low byte of their LBA. */
+static int sectors(const drive *d, const piongseut_order *order, uint8_t *page)
+{
+    size_t size = (order->count & 0xFF) * d->sector;
+    if (size == 0 || size > PAGE)
+        return -1;
+    for (size_t i = 0; i < size; i++)
+        page[i] = (uint8_t)(order->lba_low + i / d->sector);
+    return (int)size;
 }
 
 /* The log directory, and an empty log of NCQ command errors; 0 for any other. */
@@ -281,6 +312,8 @@ static int perform(drive *d, const piongseut_order *order, uint8_t *page)
         return (int)d->identify_size;
     case 0xB0:
         return smart(d, order, page);
+    case 0x20:
+        return sectors(d, order, page);
     case 0xE5:
         d->registers[PIONGSEUT_REGISTER_COUNT_LOW] = d->power;
         return 0;
@@ -312,7 +345,7 @@ static void load(drive *d, const piongseut_order *o)
 
 size_t drive_execute(drive *d, const piongseut_order *order, uint8_t *data)
 {
-    uint8_t page[512] = {0};
+    uint8_t page[PAGE] = {0};
     if (order->protocol == PIONGSEUT_PROTOCOL_ATA_HARDWARE_RESET ||
         order->protocol == PIONGSEUT_PROTOCOL_SRST) {
         if (d->hung)

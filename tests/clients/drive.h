@@ -18,6 +18,8 @@ typedef struct {
     int failing;          /* SMART RETURN STATUS tells of a threshold passed */
     int smart_off;
     int loose;            /* on a loose cable: its IDENTIFY block arrives changed */
+    size_t sector;        /* bytes of a logical sector, each of which has its LBA in all of them */
+    uint8_t edition;      /* by which the board reads the commands of this bay's host */
     uint8_t form;         /* of the sense data that the host of this bay asks for */
     uint8_t hangs;        /* the command at which it hangs, or 0 for none */
     int hung;             /* it hangs now, and only a reset frees it; then it hangs no more */

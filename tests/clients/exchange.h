@@ -4,7 +4,7 @@
 
 #include "piongseut.h"
 
-enum { INQUIRY = 0x12, PASS_THROUGH_12 = 0xA1, PASS_THROUGH_16 = 0x85 };
+enum { INQUIRY = 0x12, PASS_THROUGH_12 = 0xA1, PASS_THROUGH_16 = 0x85, PASS_THROUGH_32 = 0x7F };
 enum { SENSE = 32, MOST = 1 << 20 /* bytes of data */ };
 
 typedef struct {
@@ -14,6 +14,7 @@ typedef struct {
     size_t declared;
     int direction; /* the host's, in the order's numbers */
     uint8_t number, status, sense[SENSE];
+    uint32_t auxiliary; /* of the order that was taken */
     uint8_t lost, lost_protocol; /* an order that a reset ended without a status */
     int hung; /* the drive gave no end */
     size_t moved;

@@ -167,7 +167,7 @@ static void carry_out(int file, exchange *x)
 size_t command_size(uint8_t first)
 {
     static const size_t sizes[8] = {6, 10, 10, 16, 16, 12, 16, 16};
-    return sizes[first >> 5];
+    return first == PASS_THROUGH_32 ? 32 : sizes[first >> 5];
 }
 
 void blocks_carry(int file, exchange *x)

@@ -108,7 +108,7 @@ static void log_command(uint32_t number, const char *who, const exchange *x)
 void host_carry(uint32_t number, exchange *x)
 {
     uint8_t first = x->command[0];
-    int for_board = first == INQUIRY || first == PASS_THROUGH_12 || first == PASS_THROUGH_16;
+    int for_board = first == INQUIRY || first == PASS_THROUGH_12 || first == PASS_THROUGH_16 || first == PASS_THROUGH_32;
     if (for_board)
         ask_board(number, x);
     else
