@@ -74,15 +74,19 @@ struct measured {
     size_t bytes;        /* what the call delivers: reply, sense bytes, order, record, name and ports, rows, a run, blocks, a census */
     make *make;
     unsigned how;
-    uint8_t command[16];
+    uint8_t command[32];
 };
 
 /*
  * How a call is made: for a drive without a name, for a packet drive, with an order pending, with one that asks for registers,
  * with an intake that has a part of its block, with blocks that carry a checksum, for sense data in the fixed form and not among
- * descriptors, with a reset over the order, with both ports in page 83h.
+ * descriptors, with a reset over the order, with both ports in page 83h, by the later edition, for a drive with logical sectors of 4096
+ * bytes.
  */
-enum { TEXTS = 1, PACKET = 2, HELD = 4, CK_COND = 8, PART = 16, SUMMED = 32, FIXED = 64, OVER = 128, PORTS = 256 };
+enum {
+    TEXTS = 1, PACKET = 2, HELD = 4, CK_COND = 8, PART = 16, SUMMED = 32, FIXED = 64, OVER = 128, PORTS = 256, LATER = 512,
+    SECTORS = 1024
+};
 
 static _Alignas(64) uint8_t block[PIONGSEUT_BLOCK_SIZE], blocks[PIONGSEUT_ROLL_BLOCKS * PIONGSEUT_BLOCK_SIZE];
 static _Alignas(64) uint8_t page[PIONGSEUT_PAGE83_MOST_SIZE];
@@ -120,11 +124,15 @@ static void make_inquiry(const measured *one, const maker *by, left *to)
     SAID(to, answer.number, answer.status, answer.shown, answer.count);
 }
 
+/* The first edition is lent no block. */
 static void make_submit(const measured *one, const maker *by, left *to)
 {
+    const uint8_t edition = one->how & LATER ? PIONGSEUT_EDITION_LATER : PIONGSEUT_EDITION_FIRST;
+    const size_t size = one->command[0] == 0x7F ? 32 : 16, block_size = one->how & LATER ? sizeof block : 0;
+    const uint32_t declared = one->how & SECTORS ? 4096 : 512;
     piongseut_submit_answer answer;
-    STACK_CALL(answer = by->submit(&to->record, one->command, 16, registers, sizeof registers, 512, form_of(one), to->sense,
-                                   sizeof to->sense));
+    STACK_CALL(answer = by->submit(&to->record, one->command, size, registers, sizeof registers, block, block_size, declared, edition,
+                                   form_of(one), to->sense, sizeof to->sense));
     SAID(to, answer.number, answer.status);
     to->order = answer.order;
 }
@@ -244,6 +252,14 @@ static const measured calls[] = {
     {"packet drive, own reply", 0, 0, make_inquiry, PACKET, {0x12, 1, 0x83, 2, 0x3C}},
     {"empty", 0, RECORD, make_empty, 0, {0}},
     {"submit, IDENTIFY DEVICE", 130, ORDER + RECORD, make_submit, 0, {0x85, 0x08, 0x2E, 0, 0, 0, 1, 0, 0, 0, 0, 0, 0, 0, 0xEC, 0}},
+    {"submit, later edition", 0, ORDER + RECORD, make_submit, LATER, {0x85, 0x08, 0x2E, 0, 0, 0, 1, 0, 0, 0, 0, 0, 0, 0, 0xEC, 0}},
+    {"submit, 32-byte form", 0, ORDER + RECORD, make_submit, LATER,
+     {0x7F, 0, 0, 0, 0, 0, 0, 0x18, 0x1F, 0xF0, 0x08, 0x2E, [23] = 1, [25] = 0xEC, [28] = 0x12, 0x34, 0x56, 0x78}},
+    {"submit, a sector, T_TYPE", 0, ORDER + RECORD, make_submit, LATER | SECTORS,
+     {0x85, 0x08, 0x3E, 0, 0, 0, 1, 0, 0, 0, 0, 0, 0, 0, 0x20, 0}},
+    {"submit, a sector, A5h", 0, ORDER + RECORD, make_submit, LATER | SECTORS | SUMMED,
+     {0x85, 0x08, 0x3E, 0, 0, 0, 1, 0, 0, 0, 0, 0, 0, 0, 0x20, 0}},
+    {"submit, refusal 20", 0, 8, make_submit, LATER, {0x7F, 0, 0, 0, 0, 0, 0, 0x18, 0x1F, 0xF1}},
     {"submit, protocol 15", 0, 22, make_submit, HELD, {0x85, 0x1E}},
     {"submit, reset", 0, ORDER + RECORD, make_submit, 0, {0x85, 0x02}},
     {"submit, reset over order", 0, ORDER + RECORD, make_submit, HELD, {0x85, 0x02}},
@@ -296,6 +312,13 @@ static void end_block(uint8_t *one, int summed)
         one[511] = (uint8_t)(one[511] - one[i]);
 }
 
+/* Words 106, 117 and 118: sectors of 2048 words, or none told of. */
+static void put_sectors(int told)
+{
+    block[213] = told ? 0x50 : 0;
+    memcpy(block + 234, told ? "\x00\x08\0\0" : "\0\0\0\0", 4);
+}
+
 /* 64 different drives are the most that a roll compares: each has its number in the serial number, and in the name if any. */
 static void prepare(const measured *one, left *to)
 {
@@ -303,6 +326,7 @@ static void prepare(const measured *one, left *to)
     block[174] = 0x00; /* word 87 says that there is a name */
     block[175] = 0x41;
     memcpy(block + 216, one->how & TEXTS ? none : name, 8);
+    put_sectors(one->how & SECTORS);
     end_block(block, one->how & SUMMED);
     memcpy(signature + 5, one->how & PACKET ? "\x14\xEB" : "\0", 2);
     for (unsigned i = 0; i < PIONGSEUT_ROLL_BLOCKS; i++) {

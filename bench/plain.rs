@@ -23,6 +23,7 @@ pub struct InquiryAnswer {
 #[derive(Clone, Copy, Default)]
 pub struct Order {
     length: u32,
+    auxiliary: u32,
     features: u16,
     count: u16,
     lba_low: u16,
@@ -132,9 +133,9 @@ const FIELD: [u8; 3] = [0x05, 0x24, 0x00];
 
 /// Key, ASC and ASCQ of each refusal number. Key 0: no sense bytes.
 #[rustfmt::skip]
-const TABLE: [[u8; 3]; 20] = [
+const TABLE: [[u8; 3]; 21] = [
     [0; 3], [0; 3], FIELD, [0x05, 0x20, 0x00], FIELD, FIELD, [0x02, 0x04, 0x00], [0x0B, 0x00, 0x00], [0; 3],
-    FIELD, [0; 3], FIELD, FIELD, FIELD, FIELD, [0; 3], [0; 3], [0; 3], [0; 3], FIELD,
+    FIELD, [0; 3], FIELD, FIELD, FIELD, FIELD, [0; 3], [0; 3], [0; 3], [0; 3], FIELD, FIELD,
 ];
 
 /// The one number that states the descriptor form; all others come to the fixed form.
@@ -355,7 +356,7 @@ fn inquiry(command: &[u8], drive: &Drive, room: &mut [u8]) -> Result<(u8, usize)
 
 // ---- Orders ----
 
-/// A pass-through command of either form. Without EXTEND the upper register bytes are zero.
+/// A pass-through command of any form. Without EXTEND the upper register bytes are zero.
 struct Asked {
     first: u8,
     second: u8,
@@ -364,81 +365,122 @@ struct Asked {
     device: u8,
     command: u8,
     control: u8,
+    auxiliary: u32,
+    is_pass_through: bool,
 }
 
-fn read(command: &[u8]) -> Result<Asked, u8> {
+fn read(command: &[u8], later: bool) -> Result<Asked, u8> {
     match *command {
         [0xA1, first, second, f, c, l, m, h, device, command, _, control, ..] => {
             let registers = [f, c, l, m, h].map(u16::from);
-            Ok(Asked { first, second, extend: false, registers, device, command, control })
+            Ok(Asked { first, second, extend: false, registers, device, command, control, auxiliary: 0, is_pass_through: true })
         }
         [0x85, first, second, f, f0, c, c0, l, l0, m, m0, h, h0, device, command, control, ..] => {
-            let extend = first & 1 != 0;
-            let mask = if extend { 0xFFFF } else { 0x00FF };
-            let registers = [[f, f0], [c, c0], [l, l0], [m, m0], [h, h0]].map(|bytes| u16::from_be_bytes(bytes) & mask);
-            Ok(Asked { first, second, extend, registers, device, command, control })
+            let registers = [[f, f0], [c, c0], [l, l0], [m, m0], [h, h0]];
+            Ok(Asked { device, command, control, ..extended(first, second, registers) })
+        }
+        [0x7F, control, _, _, _, _, _, size, a, b, first, second, _, _, h, m, l, h0, m0, l0, f, f0, c, c0, device, command, _, _, x, y, z,
+            w, ..] if later =>
+        {
+            let registers = [[f, f0], [c, c0], [l, l0], [m, m0], [h, h0]];
+            let (auxiliary, is_pass_through) = (u32::from_be_bytes([x, y, z, w]), [size, a, b] == [0x18, 0x1F, 0xF0]);
+            Ok(Asked { device, command, control, auxiliary, is_pass_through, ..extended(first, second, registers) })
         }
         [] | [0xA1 | 0x85, ..] => Err(2),
+        [0x7F, ..] if later => Err(2),
         _ => Err(3),
     }
 }
 
-/// The length of the data in bytes, which T_LENGTH takes from one of three places.
-fn length_of(asked: &Asked, declared: u32) -> u32 {
-    let unit = if asked.second & 4 != 0 { 512 } else { 1 };
-    match asked.second & 3 {
-        0 => 0,
-        1 => u32::from(asked.registers[0]) * unit,
-        2 => u32::from(asked.registers[1]) * unit,
-        _ => declared,
+/// The flags and the registers of a form that has upper bytes.
+fn extended(first: u8, second: u8, registers: [[u8; 2]; 5]) -> Asked {
+    let extend = first & 1 != 0;
+    let mask = if extend { 0xFFFF } else { 0x00FF };
+    let registers = registers.map(|bytes| u16::from_be_bytes(bytes) & mask);
+    Asked { first, second, extend, registers, device: 0, command: 0, control: 0, auxiliary: 0, is_pass_through: true }
+}
+
+/// What the length of the data hangs on besides the command. The first edition has no block.
+struct Host<'a> {
+    later: bool,
+    block: Option<&'a Block>,
+    declared: u32,
+}
+
+/// The bytes of a logical sector.
+fn sector_size(block: &Block) -> u64 {
+    match block[213] & 0xD0 {
+        0x50 => 2 * u64::from(u32::from_le_bytes([block[234], block[235], block[236], block[237]])),
+        _ => 512,
     }
 }
 
-fn order_of(asked: &Asked, protocol: u8, declared: u32) -> Result<Order, u8> {
+/// The length of the data in bytes, which T_LENGTH takes from one of three places; 6 where it hangs on a block that is not there.
+fn length_of(asked: &Asked, host: &Host) -> Result<u64, u8> {
+    let number = match asked.second & 3 {
+        0 => 0,
+        1 => asked.registers[0],
+        2 => asked.registers[1],
+        _ => return Ok(host.declared.into()),
+    };
+    let unit = match asked.second & 0x14 {
+        0x14 if host.later => sector_size(host.block.ok_or(6)?),
+        0x04 | 0x14 => 512,
+        _ => 1,
+    };
+    Ok(u64::from(number) * unit)
+}
+
+fn order_of(asked: &Asked, protocol: u8, host: &Host) -> Result<Order, u8> {
     let quiet_seconds = (2 << (asked.second >> 6)) - 2;
     if protocol < 2 {
         return Ok(Order { protocol, quiet_seconds, sectors_per_block: 1, ..Order::default() });
     }
     let data = !matches!(protocol, 3 | 8 | 9);
     let from_drive = asked.second & 8 != 0;
-    let length = length_of(asked, declared);
-    let [features, count, lba_low, lba_mid, lba_high] = asked.registers;
     match (protocol, from_drive) {
-        _ if data == (asked.second & 3 == 0) => Err(11),
-        (4 | 10, false) | (5 | 11, true) => Err(12),
-        _ if data && length == 0 => Err(13),
-        _ if length > declared => Err(14),
-        _ => Ok(Order {
-            length,
-            features,
-            count,
-            lba_low,
-            lba_mid,
-            lba_high,
-            quiet_seconds,
-            sectors_per_block: 1 << (asked.first >> 5),
-            device: asked.device,
-            command: asked.command,
-            protocol,
-            ck_cond: asked.second >> 5 & 1,
-            extend: asked.extend.into(),
-            direction: if !data { 0 } else if from_drive { 1 } else { 2 },
-        }),
+        _ if data == (asked.second & 3 == 0) => return Err(11),
+        (4 | 10, false) | (5 | 11, true) => return Err(12),
+        _ => (),
     }
+    let length = match if data { length_of(asked, host)? } else { 0 } {
+        0 if data => return Err(13),
+        length => u32::try_from(length).ok().filter(|&length| length <= host.declared).ok_or(14)?,
+    };
+    let [features, count, lba_low, lba_mid, lba_high] = asked.registers;
+    Ok(Order {
+        length,
+        auxiliary: asked.auxiliary,
+        features,
+        count,
+        lba_low,
+        lba_mid,
+        lba_high,
+        quiet_seconds,
+        sectors_per_block: 1 << (asked.first >> 5),
+        device: asked.device,
+        command: asked.command,
+        protocol,
+        ck_cond: asked.second >> 5 & 1,
+        extend: asked.extend.into(),
+        direction: if !data { 0 } else if from_drive { 1 } else { 2 },
+    })
 }
 
 fn submit(
-    record: &mut Pending, command: &[u8], registers: &[u8], declared: u32, form: u8, sense: &mut [u8],
+    record: &mut Pending, command: &[u8], registers: &[u8], host: &Host, form: u8, sense: &mut [u8],
 ) -> Result<(u8, Order), u8> {
     let registers = registers.try_into().ok().filter(|_| sense.len() >= 22).ok_or(1)?;
-    let asked = read(command)?;
+    host.block.map_or(Ok(()), |block| sound(block))?;
+    let asked = read(command, host.later)?;
     match asked.first >> 1 & 15 {
         _ if asked.control & 4 != 0 => Err(4),
+        _ if !asked.is_pass_through => Err(20),
         2 | 7 | 12 | 13 | 14 => Err(9),
         15 => Ok((report([0x01, 0x00, 0x1D], false, registers, form, sense), Order::default())),
         protocol if !has_place(record, protocol) => Err(10),
         protocol => {
-            let order = order_of(&asked, protocol, declared)?;
+            let order = order_of(&asked, protocol, host)?;
             hold(record, order);
             Ok((NONE, order))
         }
@@ -633,12 +675,18 @@ pub unsafe extern "C" fn plain_inquiry(
 /// As the header says of piongseut_submit.
 #[no_mangle]
 pub unsafe extern "C" fn plain_submit(
-    record: &mut Pending, command: *const u8, command_size: usize, registers: *const u8, registers_size: usize, declared: u32,
-    form: u8, sense: *mut u8, sense_size: usize,
+    record: &mut Pending, command: *const u8, command_size: usize, registers: *const u8, registers_size: usize, block: *const u8,
+    block_size: usize, declared: u32, edition: u8, form: u8, sense: *mut u8, sense_size: usize,
 ) -> Taken {
     let (command, registers) = (lent(command, command_size), lent(registers, registers_size));
     let sense = lent_mut(sense, sense_size);
-    match submit(record, command, registers, declared, form, sense) {
+    let later = edition == 2;
+    let block = match if later { block_size } else { 0 } {
+        0 => Ok(None),
+        _ => lent(block, block_size).try_into().map(Some).map_err(|_| 1),
+    };
+    let taken = block.and_then(|block| submit(record, command, registers, &Host { later, block, declared }, form, sense));
+    match taken {
         Ok((status, order)) => Taken { number: 0, status, order },
         Err(number) => Taken { number, status: refuse(number, form, sense), order: Order::default() },
     }
