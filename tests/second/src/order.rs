@@ -152,19 +152,12 @@ pub fn submit(
         declared,
         later,
     };
-    if !lent::registers_size_is_right(registers) || !lent::sense_size_is_right(form, sense) {
-        return refuse(refusal::SIZE, form, sense);
-    }
-    if let Some(number) = refused_by_block(&lent, edition, command) {
-        return refuse(number, form, sense);
-    }
-    if fault::planted("submit-refuses-all") {
-        return refuse(refusal::FIELD, form, sense);
-    }
-    if fault::planted("busy-before-protocol") && record.is_pending() {
-        return refuse(refusal::PENDING, form, sense);
-    }
-    let fields = match read_command(command, later).and_then(check_command) {
+    let asked = check_sizes(registers, form, sense)
+        .and_then(|()| check_block(&lent, edition, command))
+        .and_then(|()| spoil_checks(record))
+        .and_then(|()| read_command(command, later))
+        .and_then(check_command);
+    let fields = match asked {
         Ok(fields) => fields,
         Err(number) => return refuse(number, form, sense),
     };
@@ -189,31 +182,54 @@ struct Lent<'a> {
     later: bool,
 }
 
+/// 1, but for the size of the block.
+fn check_sizes(registers: &[u8], form: u8, sense: &[u8]) -> Result<(), u8> {
+    if lent::registers_size_is_right(registers) && lent::sense_size_is_right(form, sense) {
+        Ok(())
+    } else {
+        Err(refusal::SIZE)
+    }
+}
+
 /// The later edition's checks of the block: its size and, right behind, its
 /// damage, both before the command is looked at (RULES 3).
-fn refused_by_block(lent: &Lent, edition: u8, command: &[u8]) -> Option<u8> {
-    if fault::planted("edition-of-another-number-refused") && !(1..=2).contains(&edition) {
-        return Some(refusal::SIZE);
+fn check_block(lent: &Lent, edition: u8, command: &[u8]) -> Result<(), u8> {
+    let wanted = fault::planted("edition-later-wants-a-block") && lent.later;
+    let another =
+        fault::planted("edition-of-another-number-refused") && !(1..=2).contains(&edition);
+    if another || (wanted && lent.block.is_empty()) {
+        return Err(refusal::SIZE);
     }
-    if fault::planted("edition-later-wants-a-block") && lent.later && lent.block.is_empty() {
-        return Some(refusal::SIZE);
-    }
-    let asks_size = if lent.later {
-        !fault::planted("edition-later-takes-any-size")
+    let (asks_size, asks_damage) = if lent.later {
+        (
+            !fault::planted("edition-later-takes-any-size"),
+            !fault::planted("edition-later-takes-damage"),
+        )
     } else {
-        fault::planted("edition-first-asks-the-size")
+        (
+            fault::planted("edition-first-asks-the-size"),
+            fault::planted("edition-first-asks-damage"),
+        )
     };
     if asks_size && !lent::block_size_is_right(lent.block) {
-        return Some(refusal::SIZE);
+        return Err(refusal::SIZE);
     }
-    let asks_damage = if lent.later {
-        !fault::planted("edition-later-takes-damage")
-    } else {
-        fault::planted("edition-first-asks-damage")
-    };
     let after = fault::planted("edition-damage-after-the-empty-command") && command.is_empty();
-    let told = asks_damage && !after && identify::is_damaged(lent.block);
-    told.then(|| refusal::DAMAGED)
+    if asks_damage && !after && identify::is_damaged(lent.block) {
+        return Err(refusal::DAMAGED);
+    }
+    Ok(())
+}
+
+/// For planted faults: refusals out of their place.
+fn spoil_checks(record: &Record) -> Result<(), u8> {
+    if fault::planted("submit-refuses-all") {
+        return Err(refusal::FIELD);
+    }
+    if fault::planted("busy-before-protocol") && record.is_pending() {
+        return Err(refusal::PENDING);
+    }
+    Ok(())
 }
 
 /// For planted faults: protocol 15 leaves the record, whatever it holds.
