@@ -14,7 +14,7 @@ use Rattle.sense.specs.Refusal.{table, noRow, rowOf, refusedSense, noSta
 use Rattle.sense.specs.Sense.{senseData, nothing}
 
 -- Past the table there is no row.
-pub row-past : (n : ℕ) → 21 ≤ n → rowOf n ≡ noRow
+pub row-past : (n : ℕ) → 24 ≤ n → rowOf n ≡ noRow
 unfolding rowOf
 row-past n h = List·getD-eq-default table noRow {n = n} h
 
@@ -39,8 +39,8 @@ unfolding rowOf all-below
 status-is n =
     ⊎-elim
     (λ z. rw (row-past n (omega arith), ne-eqb n 10 (λ e. omega arith)))
-    (λ z. eqb-true _ _ (at (λ k. eqb (rowOf k .status) (statusBy k (rowOf k .key))) 21 refl n (omega arith)))
-    (eq-zero-or-pos (21 - n))
+    (λ z. eqb-true _ _ (at (λ k. eqb (rowOf k .status) (statusBy k (rowOf k .key))) 24 refl n (omega arith)))
+    (eq-zero-or-pos (24 - n))
 
 -- What a refusal answers, by its key.
 module _ (n : ℕ) where

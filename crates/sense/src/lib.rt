@@ -29,7 +29,7 @@ pub const FIXED: u8 = 1;
 pub const DESCRIPTOR: u8 = 2;
 
 // Key, ASC and ASCQ of each refusal, by its number; key 0 where a refusal has none.
-const TABLE: [[u8; 3]; 21] = [
+const TABLE: [[u8; 3]; 24] = [
     [0x00, 0x00, 0x00],
     [0x00, 0x00, 0x00],
     [0x05, 0x24, 0x00],
@@ -51,6 +51,9 @@ const TABLE: [[u8; 3]; 21] = [
     [0x00, 0x00, 0x00],
     [0x05, 0x24, 0x00],
     [0x05, 0x24, 0x00],
+    [0x00, 0x00, 0x00],
+    [0x00, 0x00, 0x00],
+    [0x00, 0x00, 0x00],
 ];
 
 // Whether a form is the fixed one.
@@ -108,6 +111,9 @@ fn code(number: u8) -> [u8; 3]
         18 => rows[18],
         19 => rows[19],
         20 => rows[20],
+        21 => rows[21],
+        22 => rows[22],
+        23 => rows[23],
         _ => rows[0],
     }
 }

@@ -24,17 +24,20 @@ unfolding Untaken
 above zero n u h = h
 above (suc k) n u h = let below = above k n (u .0) h in ⊎-elim (λ z. absurd (u .1 (omega arith))) (λ z. omega arith) (eq-zero-or-pos (n - suc k))
 
-past : tie.Need-returns-21
+past : tie.Need-returns-24
 unfolding Untaken rowOf
 past c =
     let n = c .before .before .args .number in
-    ⊎-elim (λ z. of z) (λ h. ap threeBytes (sym (row-past n (above 20 n (c .before .match .rest) h)))) (eq-zero-or-pos n)
+    ⊎-elim (λ z. of z) (λ h. ap threeBytes (sym (row-past n (above 23 n (c .before .match .rest) h)))) (eq-zero-or-pos n)
 
 pub code-spec : {M : Type 1} → statement M
 unfolding rowOf
 code-spec =
     tie.close
     (tie.spec
+    (λ c. search needs)
+    (λ c. search needs)
+    (λ c. search needs)
     (λ c. search needs)
     (λ c. search needs)
     (λ c. search needs)
@@ -76,4 +79,7 @@ code-spec =
     (λ c. of (c .before .match .keys18))
     (λ c. of (c .before .match .keys19))
     (λ c. of (c .before .match .keys20))
+    (λ c. of (c .before .match .keys21))
+    (λ c. of (c .before .match .keys22))
+    (λ c. of (c .before .match .keys23))
     past)
