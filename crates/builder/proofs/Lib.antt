@@ -1,0 +1,3 @@
+-- Laws of the builder.
+pub mod Laws
+pub mod Inverse

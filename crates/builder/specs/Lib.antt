@@ -1,0 +1,4 @@
+-- The command that makes an order.
+pub mod Fields
+pub mod Buildable
+pub mod Builder
