@@ -88,6 +88,7 @@ extern "C" {
 #define PIONGSEUT_REFUSED_DAMAGED 18         /* none           a lent block is damaged */
 #define PIONGSEUT_REFUSED_PORT 19            /* 02h, 05 24 00  page 83h with a relative target port that is not 1 or 2 */
 #define PIONGSEUT_REFUSED_SERVICE_ACTION 20  /* 02h, 05 24 00  opcode 7Fh, and bytes 7 to 9 are not 18h 1Fh F0h */
+#define PIONGSEUT_REFUSED_ORDER 23           /* none           no command of 12 or 16 bytes makes the order that is to be built */
 
 /* Sizes of what is lent, in bytes; of sense room the least. */
 #define PIONGSEUT_BLOCK_SIZE 512 /* an IDENTIFY block, and the store of an intake */
@@ -481,6 +482,33 @@ piongseut_census piongseut_census_empty(void);
  * sum to its blocks), 18 (a damaged block).
  */
 piongseut_census_answer piongseut_census_feed(piongseut_census census, const uint8_t *block, size_t block_size);
+
+/* ---- The builder: the command that makes an order ---- */
+
+/* The most bytes of a built command, and those of its two forms. */
+#define PIONGSEUT_COMMAND_SIZE 16
+#define PIONGSEUT_COMMAND_SHORT_SIZE 12
+#define PIONGSEUT_COMMAND_LONG_SIZE 16
+
+/* The command that was built. There is no padding in it. */
+typedef struct {
+    uint8_t number;                          /* refusal number, 0 if none */
+    uint8_t size;                            /* 12 or 16: so many bytes of the command are to be sent; 0 where refused */
+    uint8_t command[PIONGSEUT_COMMAND_SIZE]; /* zero behind them; all zero where refused */
+} piongseut_build_answer;
+PIONGSEUT_HAS_SIZE(piongseut_build_answer, 18)
+
+/*
+ * Builds the command that makes an order: ATA PASS-THROUGH (12) where its extend is 0, else ATA PASS-THROUGH (16), with the control byte
+ * and all that is ignored zero. T_LENGTH is 0 without data; else it and BYTE_BLOCK name the first that has the order's length, of the
+ * count in blocks of 512 bytes, the count in bytes, the features in blocks, the features in bytes, and the declared length. Submitted in
+ * the first edition, with nothing pending and with the order's length declared, the command is accepted and gives the order back.
+ * Refusal: 23, exactly where no command of either form gives the order, whatever is declared: protocol none of 0, 1, 3 to 6, 8 to 11;
+ * auxiliary not 0; quiet_seconds none of 0, 2, 6, 14; sectors_per_block no power of two up to 128; ck_cond or extend above 1; a register
+ * above FFh without extend; with data a length of 0, or a direction that the protocol does not have; without data a length or a
+ * direction other than 0; and a reset (protocol 0 or 1) with another sectors_per_block than 1, or any other field not 0.
+ */
+piongseut_build_answer piongseut_build(piongseut_order order);
 
 #undef PIONGSEUT_HAS_SIZE
 
