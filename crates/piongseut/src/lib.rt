@@ -1,5 +1,6 @@
 // Piongseut: the board as a C library. Every entry is a thin function over the one that is proved below it, and promises the same
 // in the same words; include/piongseut.h says it to C. Only what stands here is visible in the archive.
+use builder::Built;
 use inquiry::Answer;
 use intake::Intake;
 use intake::Offered;
@@ -10,6 +11,7 @@ use page83_reader::Name;
 use passthrough::Ended;
 use passthrough::Pending;
 use passthrough::Taken;
+use passthrough_order::Order;
 use received::Gathered;
 use roll::Counted;
 use tally::Census;
@@ -21,6 +23,7 @@ ghost use Rattle.inquiry.specs.Inquiry.{outcome as inquiryOutcome, inquiry as i
 ghost use Rattle.passthrough.specs.Record.{empty};
 ghost use Rattle.passthrough.specs.Submit.{outcome as submitOutcome, submit as submitRule};
 ghost use Rattle.passthrough.specs.Complete.{outcome as completeOutcome, complete as completeRule};
+ghost use Rattle.builder.specs.Builder.{build as buildRule};
 ghost use Rattle.page83.specs.Page83.{outcome as writtenOutcome, write as writeRule};
 ghost use Rattle.page83_reader.specs.Reader.{read as readRule};
 ghost use Rattle.roll.specs.Roll.{outcome as rollOutcome, roll as rollRule};
@@ -182,4 +185,12 @@ pub extern "C" fn piongseut_census_feed(census: Census, block: &[u8]) -> Fed
     ensures { λ r. ⌜ r ≡ feedRule census (now (block .entry)) ⌝ }
 {
     tally::feed(census, block)
+}
+
+// Builds the command that makes an order.
+#[no_mangle]
+pub extern "C" fn piongseut_build(order: Order) -> Built
+    ensures { λ r. ⌜ r ≡ buildRule order ⌝ }
+{
+    builder::build(order)
 }
