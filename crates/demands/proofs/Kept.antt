@@ -14,6 +14,7 @@ use Rattle.demands.proofs.Roll.{roll-accepts, roll-of-drives}
 use Rattle.demands.proofs.Damaged.{damaged-is-refused, carried-sum}
 use Rattle.demands.proofs.Stream.{stream-of-runs, inquiry-from-a-stream, roll-of-streams}
 use Rattle.demands.proofs.Census.{census-of-blocks, others-left-out}
+use Rattle.demands.proofs.Built.{built-reads-back, built-exactly-when, same-order-same-fields}
 
 settled : {O : Type 0} (outcome : O) → Settled outcome
 settled outcome a b p q = p ∙ sym q
@@ -34,6 +35,7 @@ one-outcome =
       of-inquiry-from-intake = λ have store command signature texts reply ports address form room sense. settled _;
       of-roll-of-intakes = λ haves stores room rows. settled _;
       of-feed = λ c block. settled _;
+      of-build = λ o. settled _;
     }
 
 pub kept : Promises
@@ -71,4 +73,7 @@ kept =
       carried-sum = carried-sum;
       census-of-blocks = census-of-blocks;
       others-left-out = others-left-out;
+      built-reads-back = built-reads-back;
+      built-exactly-when = built-exactly-when;
+      same-order-same-fields = same-order-same-fields;
     }

@@ -12,4 +12,7 @@ pub mod Damaged
 pub mod Census
 pub mod FirstEdition
 pub mod Forms
+pub mod Counts
+pub mod ReadBack
+pub mod Built
 pub mod Kept

@@ -102,7 +102,7 @@ module _ (s : Submission) where
   abbrev refused : ℕ → Submit.Outcome
   refused number = Submit.refused (s .record-given) (s .form) number (s .sense)
 
-  zero : numberOf s ≡ 0 → refusal ≡ 0
+  pub zero : numberOf s ≡ 0 → refusal ≡ 0
   unfolding submit
   zero e = not-refused (λ (o : Submit.Outcome). o .submitted .taken .number) refused (accepted (eqb (protocol (s .command)) 15)) refusal refl e
 
@@ -110,7 +110,7 @@ module _ (s : Submission) where
   unfolding submit
   outcome-is e = rw (eq-eqb refusal 0 (zero e))
 
-  taken : numberOf s ≡ 0 → (protocol (s .command) ≡ 15 → ⊥) → outcomeOf s ≡ Submit.taken (s .record-given) (made (s .command) (s .block) (s .declared) (s .edition)) (s .sense)
+  pub taken : numberOf s ≡ 0 → (protocol (s .command) ≡ 15 → ⊥) → outcomeOf s ≡ Submit.taken (s .record-given) (made (s .command) (s .block) (s .declared) (s .edition)) (s .sense)
   taken e h = outcome-is e ∙ rw (ne-eqb (protocol (s .command)) 15 h)
 
   direction-of : numberOf s ≡ 0 → orderFrom s .direction ≡ cond (eqb (protocol (s .command)) 15) 0 (cond (reset (protocol (s .command))) 0 (directionOf (protocol (s .command)) (tDir (s .command))))

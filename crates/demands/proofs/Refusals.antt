@@ -1,11 +1,11 @@
 -- Demand 1 of refusals: an entry's outcome is what was accepted, which carries 0, or what its refusal's number alone decides.
 use mathlib.Core.Path.{_≡_, refl, sym, ap, _∙_}
 use mathlib.Core.Bool.{Bool, true, false, cond, _&&_, not}
-use mathlib.Core.List.{List, [], _∷_}
+use mathlib.Core.List.{List, [], _∷_, _++_}
 use Prim.Native.Nat.{ℕ}
 use native.Mathlib.Omega.{arith}
 use lib.Dec.{eqb, ltb}
-use lib.ListN.{length, take, drop}
+use lib.ListN.{length, take, drop, replicate}
 use borrow.Author.Tests.{eq-eqb, eqb-true}
 use Rattle.rules.specs.First.{_when_, first}
 use Rattle.page83.specs.declared.Ports.{Ports}
@@ -36,6 +36,9 @@ use Rattle.tally.specs.declared.Census.{Census}
 use Rattle.tally.specs.declared.Fed.{Fed}
 use Rattle.tally.specs.Census as Census
 use Rattle.tally.specs.Census.{feed}
+use Rattle.passthrough_order.specs.declared.Order.{Order}
+use Rattle.builder.specs.Buildable.{buildable}
+use Rattle.builder.specs.Builder.{short, long, built, build}
 use Rattle.demands.specs.Promises.{Refused, RefusalsChangeNothing}
 
 -- An outcome that is `accepted`, which carries 0, or that of a refusal. One that carries a number is that number's.
@@ -181,6 +184,15 @@ of-feed c block h =
     let r = Census.refusalOf c block in
     by-number (λ (o : Fed). o .number) (λ n. Census.answer c n) _ r (eqb r 0) refl refl h
 
+of-build : (o : Order) → Refused (build o .number) → build o ≡ built 23 0 (replicate 16 0x00)
+unfolding build
+of-build o h = by (buildable o) (eqb (o .extend) 0) h
+  where
+    by : (b x : Bool) → Refused (cond b (cond x (built 0 12 (short o ++ replicate 4 0x00)) (built 0 16 (long o))) (built 23 0 (replicate 16 0x00)) .number) → cond b (cond x (built 0 12 (short o ++ replicate 4 0x00)) (built 0 16 (long o))) (built 23 0 (replicate 16 0x00)) ≡ built 23 0 (replicate 16 0x00)
+    by true true h = absurd (h refl)
+    by true false h = absurd (h refl)
+    by false x h = refl
+
 pub refusals-change-nothing : RefusalsChangeNothing
 refusals-change-nothing =
     record {
@@ -195,4 +207,5 @@ refusals-change-nothing =
       of-inquiry-from-intake = of-inquiry-from-intake;
       of-roll-of-intakes = of-roll-of-intakes;
       of-feed = of-feed;
+      of-build = of-build;
     }

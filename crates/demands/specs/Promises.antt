@@ -42,6 +42,7 @@ use Rattle.passthrough.specs.Complete as Complete
 use Rattle.passthrough.specs.Complete.{complete, endStatus, endSense, isSet}
 use Rattle.passthrough.specs.History as History
 use Rattle.passthrough.specs.History.{Step, Stacked, completionOf}
+use Rattle.builder.specs.Builder.{built, build}
 use Rattle.roll.specs.Roll as Roll
 use Rattle.roll.specs.Roll.{roll, blockAt}
 use Rattle.intake.specs.declared.Intake.{Intake}
@@ -59,6 +60,7 @@ use Rattle.tally.specs.Census.{closed, feed}
 use Rattle.tally.specs.Fleet.{feedAll, countOf, Countable, countables}
 use Rattle.passthrough_checks.specs.Checks as PassChecks
 use Rattle.demands.specs.FirstEdition as FirstEdition
+use Rattle.demands.specs.Counts.{countsOf, pointsAt}
 use Rattle.demands.specs.Soundings.{SoundingsHold, LaterSoundingsHold}
 
 -- A number that came back is a refusal's.
@@ -85,6 +87,7 @@ pub record OneOutcome : Type 0 where
   pub of-inquiry-from-intake : (have : ℕ) (store command signature texts reply : List ℕ) (ports : Ports) (address : List ℕ) (form : ℕ) (room sense : List ℕ) → Settled (inquiryOf have store command signature texts reply ports address form room sense)
   pub of-roll-of-intakes : (haves stores room rows : List ℕ) → Settled (rollOf haves stores room rows)
   pub of-feed : (c : Census) (block : List ℕ) → Settled (feed c block)
+  pub of-build : (o : Order) → Settled (build o)
 
 -- ## Demand 1
 
@@ -102,6 +105,7 @@ pub record RefusalsChangeNothing : Type 0 where
   pub of-inquiry-from-intake : (have : ℕ) (store command signature texts reply : List ℕ) (ports : Ports) (address : List ℕ) (form : ℕ) (room sense : List ℕ) → Refused (inquiryOf have store command signature texts reply ports address form room sense .answer .number) → inquiryOf have store command signature texts reply ports address form room sense ≡ Inquiry.refused form (inquiryOf have store command signature texts reply ports address form room sense .answer .number) room sense
   pub of-roll-of-intakes : (haves stores room rows : List ℕ) → Refused (rollOf haves stores room rows .counted .number) → rollOf haves stores room rows ≡ Received.outcome (record { number = rollOf haves stores room rows .counted .number; blocks = 0; drives = 0 }) room rows
   pub of-feed : (c : Census) (block : List ℕ) → Refused (feed c block .number) → feed c block ≡ Census.answer c (feed c block .number)
+  pub of-build : (o : Order) → Refused (build o .number) → build o ≡ built 23 0 (replicate 16 0)
 
 -- A block that passes: it is not damaged.
 abbrev pub Passes : List ℕ → Type 0
@@ -490,6 +494,34 @@ CensusOfBlocks = (blocks : List (List ℕ)) → Countable blocks → length bloc
 abbrev pub OthersLeftOut : Type 0
 OthersLeftOut = (c : Census) (blocks : List (List ℕ)) → feedAll c blocks ≡ feedAll c (countables blocks)
 
+-- ## The builder
+
+-- The bytes of a built command that are sent.
+abbrev pub sent : Order → List ℕ
+sent o = take (build o .size) (build o .command)
+
+-- A command that is built makes its order: submitted in the first edition with nothing pending, and with the order's length declared, it
+-- is taken, and the order that comes back and is held is the one that it was built from; no sense byte is written.
+abbrev pub BuiltReadsBack : Type 0
+BuiltReadsBack = (o : Order) (registers block : List ℕ) (edition form : ℕ) (sense : List ℕ) → build o .number ≡ 0 → isLater edition ≡ false → length registers ≡ 11 → 22 ≤ length sense → submit empty (sent o) registers block (o .length) edition form sense ≡ Submit.taken empty o sense
+
+-- A command of bytes makes an order in the first edition: it is accepted, and is no report of protocol 15.
+pub record Makes (s : Submission) : Type 0 where
+  pub bytes : Bytes (s .command)
+  pub first-edition : isLater (s .edition) ≡ false
+  pub accepted : numberOf s ≡ 0
+  pub no-report : protocol (s .command) ≡ 15 → ⊥
+
+-- The builder refuses with 23 alone, and only an order that no command makes; every order that some command makes is built.
+pub record BuiltExactlyWhen : Type 0 where
+  pub built-or-23 : (o : Order) → (build o .number ≡ 0) ⊎ (build o .number ≡ 23)
+  pub refused-if-none : (o : Order) → build o .number ≡ 23 → (s : Submission) → Makes s → orderFrom s ≡ o → ⊥
+  pub built-if-some : (s : Submission) → Makes s → build (orderFrom s) .number ≡ 0
+
+-- Two commands make the same order exactly when they agree in all that counts, and point at the same byte length.
+abbrev pub SameOrderSameFields : Type 0
+SameOrderSameFields = (s t : Submission) → Makes s → Makes t → (orderFrom s ≡ orderFrom t) ↔ ((countsOf (s .command) ≡ countsOf (t .command)) × (pointsAt (s .command) (s .declared) ≡ pointsAt (t .command) (t .declared)))
+
 -- ## All of them
 
 pub record Promises : Type 0 where
@@ -525,3 +557,6 @@ pub record Promises : Type 0 where
   pub carried-sum : CarriedSum
   pub census-of-blocks : CensusOfBlocks
   pub others-left-out : OthersLeftOut
+  pub built-reads-back : BuiltReadsBack
+  pub built-exactly-when : BuiltExactlyWhen
+  pub same-order-same-fields : SameOrderSameFields
