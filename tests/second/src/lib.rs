@@ -7,6 +7,7 @@
 
 #![forbid(unsafe_code)]
 
+pub mod build;
 pub mod census;
 pub mod completion;
 pub mod fault;
@@ -24,6 +25,7 @@ pub mod refusal;
 pub mod roll;
 pub mod sense;
 
+pub use build::{build, Built};
 pub use census::{census_empty, census_feed, Census, Fed};
 pub use completion::{complete, Ended};
 pub use inquiry::{inquiry, Inquiry};

@@ -11,7 +11,7 @@ pub const FROM_DRIVE: u8 = 1;
 pub const TO_DRIVE: u8 = 2;
 
 /// What the board is to do with the drive (RULES 8.3).
-#[derive(Clone, Copy, Debug, Default, PartialEq, Eq)]
+#[derive(Clone, Copy, Debug, Default, PartialEq, Eq, Hash)]
 pub struct Order {
     pub length: u32,
     /// Of the 32-byte form alone.
@@ -645,12 +645,12 @@ fn product(number: u64, unit: u64) -> u64 {
 }
 
 /// 0, 2, 6 or 14 (RULES 8.3).
-fn quiet_seconds(off_line: u8) -> u16 {
+pub fn quiet_seconds(off_line: u8) -> u16 {
     (1 << (off_line + 1)) - 2
 }
 
 /// 1 to 128 (RULES 8.3).
-fn sectors_per_block(multiple_count: u8) -> u16 {
+pub fn sectors_per_block(multiple_count: u8) -> u16 {
     1 << multiple_count
 }
 
