@@ -11,7 +11,8 @@
  *            the record, 60 bytes; the bytes of every piece, the const ones too.
  * INTAKE_INQUIRY and INTAKE_ROLL are two functions each, one after the other, as a C program uses them: the second is lent what
  * the first one counted. Where the first refuses, the second is not called, and its answer is one that has nothing. The census
- * that is fed is a piece, its 26 numbers in the header's order, and goes to the function by value.
+ * that is fed is a piece, its 26 numbers in the header's order, and goes to the function by value. BUILD builds the record's order,
+ * and then submits the command to an empty record, with the order's length declared: two functions, likewise.
  */
 #include "piongseut.h"
 
@@ -21,14 +22,14 @@
 #include <unistd.h>
 
 enum { RECORD_EMPTY, INQUIRY, SUBMIT, COMPLETE, WRITE, READ, ROLL, INTAKE_EMPTY, INTAKE_TAKE, INTAKE_INQUIRY, INTAKE_ROLL,
-       CENSUS_EMPTY, CENSUS_FEED, FUNCTIONS };
+       CENSUS_EMPTY, CENSUS_FEED, BUILD, FUNCTIONS };
 
 #define GUARD 64
 #define PIECES 8
 #define RECORD_GUARD 255
 #define BATCH_MOST (4u << 20)
 
-static const unsigned pieces_of[FUNCTIONS] = {0, 8, 4, 2, 3, 1, 2, 0, 2, 8, 4, 0, 2};
+static const unsigned pieces_of[FUNCTIONS] = {0, 8, 4, 2, 3, 1, 2, 0, 2, 8, 4, 0, 2, 0};
 
 static uint8_t batch[BATCH_MOST];
 static uint8_t answers[4 * BATCH_MOST];
@@ -251,7 +252,7 @@ static void tell_stack(void)
     static const char *const names[FUNCTIONS] = {
         "record_empty", "inquiry",      "submit",      "complete",     "write_page83", "read_page83",
         "roll",         "intake_empty", "intake_take", "intake_block", "intake_gather", "census_empty",
-        "census_feed",
+        "census_feed",  "build",
     };
     for (unsigned at = 0; at < FUNCTIONS; at++)
         fprintf(stderr, "piongseut_%s %zu %lu\n", names[at], used[at].deepest, used[at].calls);
@@ -281,13 +282,18 @@ static void call_inquiry(void)
     put_inquiry(answer);
 }
 
+static void put_submit(const piongseut_submit_answer *answer)
+{
+    put(answer->number, 1);
+    put(answer->status, 1);
+    put_order(&answer->order);
+}
+
 static void call_submit(uint32_t declared)
 {
     piongseut_submit_answer answer;
     CALL(SUBMIT, answer = piongseut_submit(&kept.record, LENT(0), LENT(1), LENT(2), declared, edition, form, LENT(3)));
-    put(answer.number, 1);
-    put(answer.status, 1);
-    put_order(&answer.order);
+    put_submit(&answer);
 }
 
 static void call_complete(void)
@@ -414,6 +420,27 @@ static void call_census_feed(void)
     put(answer.number, 1);
 }
 
+/* What is lent to submit here does not matter where it takes the order: it is no piece. */
+static void call_build(void)
+{
+    static uint8_t registers[PIONGSEUT_REGISTERS_SIZE], sense[PIONGSEUT_SENSE_SIZE];
+    const piongseut_order order = kept.record.order;
+    piongseut_build_answer built;
+    piongseut_submit_answer answer;
+    memset(&answer, 0, sizeof answer);
+    CALL(BUILD, built = piongseut_build(order));
+    if (built.number == PIONGSEUT_ACCEPTED) {
+        memset(&kept.record, 0, sizeof kept.record);
+        CALL(SUBMIT, answer = piongseut_submit(&kept.record, built.command, built.size, registers, sizeof registers, sense, 0,
+                                               order.length, edition, form, sense, sizeof sense));
+    }
+    put(built.number, 1);
+    put(built.size, 1);
+    for (unsigned at = 0; at < sizeof built.command; at++)
+        put(built.command[at], 1);
+    put_submit(&answer);
+}
+
 static void call(unsigned function, uint32_t declared)
 {
     piongseut_record empty;
@@ -433,7 +460,8 @@ static void call(unsigned function, uint32_t declared)
     case INTAKE_INQUIRY: call_intake_inquiry(); break;
     case INTAKE_ROLL: call_intake_roll(); break;
     case CENSUS_EMPTY: call_census_empty(); break;
-    default: call_census_feed(); break;
+    case CENSUS_FEED: call_census_feed(); break;
+    default: call_build(); break;
     }
 }
 

@@ -156,7 +156,7 @@ fn makes(command: &[u8], order: &Order) -> bool {
 fn taken_by_fault(taken: &Taken, order: &Order) -> bool {
     match taken.number {
         refusal::PROTOCOL => fault::planted("build-any-protocol"),
-        refusal::LENGTH_ZERO => fault::planted("build-length-0-of-data"),
+        refusal::LENGTH_ZERO => fault::planted("build-length-0-of-data") && order.length == 0,
         refusal::ACCEPTED => fault::planted("build-protocol-15") && order.protocol == 15,
         _ => false,
     }

@@ -74,7 +74,7 @@ fn order_of(command: &[u8], declared: u32) -> Option<Order> {
         0,
         &mut sense,
     );
-    (taken.number == 0 && taken.status == 0xFF).then(|| taken.order)
+    (taken.number == 0 && taken.status == 0xFF).then_some(taken.order)
 }
 
 /// What counts of a command (RULES 16.4), and the length that it points at.

@@ -2,11 +2,11 @@
 //! pair that can apply together was tried, and that the first one answered.
 
 use crate::call::{
-    census_in, numbers_in, Call, CENSUS_FEED, COMPLETE, INQUIRY, INTAKE_INQUIRY, INTAKE_ROLL,
-    INTAKE_TAKE, READ, ROLL, SUBMIT, WRITE,
+    census_in, numbers_in, Call, BUILD, CENSUS_FEED, COMPLETE, INQUIRY, INTAKE_INQUIRY,
+    INTAKE_ROLL, INTAKE_TAKE, READ, ROLL, SUBMIT, WRITE,
 };
 use crate::lent::carries_name;
-use second::Record;
+use second::{Order, Record};
 
 /// A set of refusal numbers: bit n for number n.
 pub type Set = u32;
@@ -112,8 +112,8 @@ fn set(conditions: &[(usize, bool)]) -> Set {
 
 /// The refusals in the order in which they are asked (RULES 3): 2 and 3 never
 /// apply together, nor do 5, 7, 8 and 19 with 9 to 14.
-const IN_ORDER: [u32; 20] = [
-    1, 17, 18, 2, 3, 4, 20, 5, 9, 10, 11, 12, 6, 19, 7, 8, 13, 14, 15, 16,
+const IN_ORDER: [u32; 21] = [
+    1, 17, 18, 2, 3, 4, 20, 5, 9, 10, 11, 12, 6, 19, 7, 8, 13, 14, 15, 16, 23,
 ];
 
 /// The refusal that answers; 0 where none applies.
@@ -160,7 +160,49 @@ pub fn to(call: &Call, edition: u8) -> Set {
             (17, census_is_refused(&call.pieces[0])),
             (18, is_damaged(&call.pieces[1])),
         ]),
+        BUILD => set(&[(23, order_is_refused(&call.record.order))]),
         _ => 0,
+    }
+}
+
+/// Whether some field of an order is none that a command can give it (RULES
+/// 16.2). The second program asks no such list: it reads what it builds.
+fn order_is_refused(order: &Order) -> bool {
+    let seconds = [0, 2, 6, 14].contains(&order.quiet_seconds);
+    if order.auxiliary != 0 || !seconds {
+        return true;
+    }
+    let registers = [order.features, order.count].into_iter().chain([
+        order.lba_low,
+        order.lba_mid,
+        order.lba_high,
+    ]);
+    let register_most = if order.extend == 0 { 0xFF } else { 0xFFFF };
+    let data = (order.length != 0, order.direction);
+    let fits = match order.protocol {
+        0 | 1 => return *order != a_reset(order),
+        3 | 8 | 9 => data == (false, 0),
+        4 | 10 => data == (true, 1),
+        5 | 11 => data == (true, 2),
+        6 => data == (true, 1) || data == (true, 2),
+        _ => false,
+    };
+    let sectors = order.sectors_per_block;
+    !fits
+        || order.ck_cond > 1
+        || order.extend > 1
+        || registers.max() > Some(register_most)
+        || !sectors.is_power_of_two()
+        || sectors > 128
+}
+
+/// The reset with the same protocol and quiet seconds.
+fn a_reset(order: &Order) -> Order {
+    Order {
+        quiet_seconds: order.quiet_seconds,
+        sectors_per_block: 1,
+        protocol: order.protocol,
+        ..Order::default()
     }
 }
 

@@ -2,7 +2,7 @@
 //! compares its answers with the second program's.
 
 use crate::applies;
-use crate::call::{Call, Said, Stated, NAMES, SUBMIT};
+use crate::call::{Call, Said, Stated, BUILD, NAMES, SUBMIT};
 use crate::editions;
 use crate::numbers::Numbers;
 use crate::senses;
@@ -17,7 +17,7 @@ use std::sync::Arc;
 use std::thread::JoinHandle;
 
 /// Numbers below this one come back.
-pub const NUMBERS: usize = 21;
+pub const NUMBERS: usize = 24;
 /// A batch is sent when it has so many bytes.
 const BATCH: usize = 128 << 10;
 /// So many differences of a class are printed in full.
@@ -149,7 +149,7 @@ impl Board {
         let open = &mut self.open;
         let form = call.form.unwrap_or_else(|| senses::any(open));
         let edition = match (call.function, call.edition) {
-            (SUBMIT, None) => editions::any(open),
+            (SUBMIT | BUILD, None) => editions::any(open),
             (_, edition) => edition.unwrap_or(0),
         };
         Stated { form, edition }

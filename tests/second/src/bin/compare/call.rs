@@ -1,7 +1,7 @@
 //! A call of one of the board's functions: its bytes on the way to the board,
 //! and what the second program answers, as the board would write it.
 
-use second::{Census, Counted, Ended, Inquiry, Intake, Order, Ports, Record, Roll};
+use second::{Census, Counted, Ended, Inquiry, Intake, Order, Ports, Record, Roll, Taken};
 
 pub const EMPTY: u8 = 0;
 pub const INQUIRY: u8 = 1;
@@ -19,8 +19,11 @@ pub const INTAKE_ROLL: u8 = 10;
 pub const CENSUS_EMPTY: u8 = 11;
 /// The census is lent as a piece, as 26 numbers, and goes by value.
 pub const CENSUS_FEED: u8 = 12;
+/// The record's order is built, and the command submitted with nothing pending
+/// and the order's length declared: two functions, too.
+pub const BUILD: u8 = 13;
 
-pub const NAMES: [&str; 13] = [
+pub const NAMES: [&str; 14] = [
     "empty",
     "inquiry",
     "submit",
@@ -34,10 +37,11 @@ pub const NAMES: [&str; 13] = [
     "intake_gather, roll",
     "census_empty",
     "census_feed",
+    "build, submit",
 ];
 
 /// The lent pieces of each function, in the header's order.
-pub const PIECES: [&[&str]; 13] = [
+pub const PIECES: [&[&str]; 14] = [
     &[],
     &[
         "command",
@@ -69,6 +73,7 @@ pub const PIECES: [&[&str]; 13] = [
     &["haves", "stores", "room", "rows"],
     &[],
     &["census", "block"],
+    &[],
 ];
 
 /// The pieces of a function that are 16-bit numbers.
@@ -248,7 +253,8 @@ impl Call {
             INTAKE_INQUIRY => self.answer_intake_inquiry(form, &record, out),
             INTAKE_ROLL => self.answer_intake_roll(&record, out),
             CENSUS_EMPTY => answer_census_empty(&record, out),
-            _ => self.answer_census_feed(&record, out),
+            CENSUS_FEED => self.answer_census_feed(&record, out),
+            _ => answer_build(stated, &mut record, out),
         };
         put_size(start, out);
         Said {
@@ -294,8 +300,7 @@ impl Call {
         let taken = second::submit(
             record, &p[0], &p[1], &p[2], declared, edition, form, &mut sense,
         );
-        out.extend([taken.number, taken.status]);
-        put_order(&taken.order, out);
+        put_taken(&taken, out);
         put_record(record, out);
         p[..3].iter().for_each(|piece| out.extend(piece));
         out.extend(&sense);
@@ -429,6 +434,15 @@ fn not_rolled(number: u8) -> Roll {
     }
 }
 
+/// What stands for the command where an order is refused: zeros.
+fn not_submitted() -> Taken {
+    Taken {
+        number: 0,
+        status: 0,
+        order: Order::default(),
+    }
+}
+
 /// The 16-bit numbers that a piece holds.
 pub fn numbers_in(piece: &[u8]) -> Vec<u16> {
     let pairs = piece.chunks_exact(2);
@@ -453,6 +467,34 @@ fn answer_census_empty(record: &Record, out: &mut Vec<u8>) -> u8 {
     out.extend(census_bytes(&second::census_empty()));
     put_record(record, out);
     0
+}
+
+/// The record's order, and where a command is built of it that command's own.
+fn answer_build(stated: Stated, record: &mut Record, out: &mut Vec<u8>) -> u8 {
+    let order = record.order;
+    let built = second::build(order);
+    out.extend([built.number, built.size]);
+    out.extend(built.command);
+    let taken = if built.number == 0 {
+        let (command, Stated { form, edition }) = (&built.command[..built.size.into()], stated);
+        let (declared, sense) = (order.length, &mut [0; 22]);
+        *record = Record::default();
+        second::submit(
+            record,
+            command,
+            &[0; 11],
+            &[],
+            declared,
+            edition,
+            form,
+            sense,
+        )
+    } else {
+        not_submitted()
+    };
+    put_taken(&taken, out);
+    put_record(record, out);
+    built.number.max(taken.number)
 }
 
 /// A census as its 26 numbers, in the header's order.
@@ -511,6 +553,11 @@ fn put_counted(counted: &Counted, out: &mut Vec<u8>) {
 fn put_inquiry(answer: &Inquiry, out: &mut Vec<u8>) {
     out.extend([answer.number, answer.status, answer.shown]);
     out.extend((answer.count as u64).to_le_bytes());
+}
+
+fn put_taken(taken: &Taken, out: &mut Vec<u8>) {
+    out.extend([taken.number, taken.status]);
+    put_order(&taken.order, out);
 }
 
 fn put_roll(roll: &Roll, out: &mut Vec<u8>) {

@@ -273,6 +273,49 @@ pub fn feed(census: &Census, block: &[u8]) -> Call {
     Call::new(call::CENSUS_FEED, pieces)
 }
 
+/// The builder with this order, in a record whose other bytes are odd.
+pub fn build(order: Order) -> Call {
+    let record = Record {
+        order,
+        ..odd_record(3, 1, 1)
+    };
+    Call::new(call::BUILD, Vec::new()).record(record)
+}
+
+/// An order of a protocol that has this direction: a reset, or one in which all
+/// registers differ, and the count tells the length of data in blocks.
+pub fn order(protocol: u8, direction: u8, extend: u8) -> Order {
+    let reset = Order {
+        sectors_per_block: 1,
+        protocol,
+        ..Order::default()
+    };
+    if protocol < 2 {
+        return reset;
+    }
+    let register = |upper: u16, lower: u16| u16::from(extend) * 256 * upper + lower;
+    let count = register(0x33, 0x44);
+    Order {
+        length: if direction == 0 {
+            0
+        } else {
+            512 * u32::from(count)
+        },
+        features: register(0x11, 0x22),
+        count,
+        lba_low: register(0x55, 0x66),
+        lba_mid: register(0x77, 0x88),
+        lba_high: register(0x99, 0xAA),
+        sectors_per_block: 16,
+        device: 0xBB,
+        command: 0xCC,
+        ck_cond: 1,
+        extend,
+        direction,
+        ..reset
+    }
+}
+
 /// The page 83h that a block has, without ports.
 pub fn page83(block: &[u8]) -> Vec<u8> {
     page83_with(block, Ports::default(), &[])

@@ -12,6 +12,7 @@
 
 mod applies;
 mod board;
+mod builds;
 mod call;
 mod censuses;
 mod editions;
@@ -126,7 +127,7 @@ fn real_blocks(folder: &str) -> io::Result<Vec<Vec<u8>>> {
 /// A class of inputs that takes nothing but the board.
 type Inputs = fn(&mut Board);
 
-const CLASSES: [(&str, Inputs); 62] = [
+const CLASSES: [(&str, Inputs); 66] = [
     ("soundings C1 to C13", soundings::numbered),
     ("the other soundings", soundings::others),
     ("published examples", soundings::published),
@@ -164,6 +165,13 @@ const CLASSES: [(&str, Inputs); 62] = [
         editions::products,
     ),
     ("editions: refusals alone and together", editions::refusals),
+    ("build: orders of commands", builds::commands),
+    ("build: one field changed", builds::changed),
+    (
+        "build: every number of seconds and of sectors",
+        builds::numbers,
+    ),
+    ("build: lengths and where they stand", builds::lengths),
     ("sense: refusals in every form", senses::refusals),
     ("sense: every number of a form, by rooms", senses::numbers),
     ("sense: each register, in every form", senses::registers),
@@ -278,6 +286,8 @@ struct Agreed {
     editions: bool,
     /// Orders that were taken, and what was told of them.
     orders: bool,
+    /// Orders of commands, and what they are built into.
+    builds: bool,
 }
 
 /// The classes that take a seed or the real blocks.
@@ -302,6 +312,8 @@ fn seeded(board: &mut Board, asked: &Asked) -> Agreed {
     let classes = censuses::fleets(board, &asked.real, asked.seed);
     board.class("editions: one command in both");
     let editions = editions::both(board, asked.seed, &asked.real);
+    board.class("build: orders of random commands");
+    let builds = builds::made_again(board, asked.seed, &asked.real);
     board.class("resets: records of random bytes");
     resets::any_records(board, asked.seed);
     board.class("sequences through one record");
@@ -318,6 +330,7 @@ fn seeded(board: &mut Board, asked: &Asked) -> Agreed {
         forms,
         editions,
         orders,
+        builds,
     }
 }
 
@@ -366,6 +379,10 @@ fn own_answers(agreed: &Agreed, report: &mut Report) {
     report.check(
         agreed.orders,
         "sequences: an order is ended or told lost once, or still pending",
+    );
+    report.check(
+        agreed.builds,
+        "build: an order of a command is built into one that makes it again",
     );
 }
 
@@ -428,7 +445,7 @@ fn pairs_tried(board: &Board, report: &mut Report) {
 }
 
 /// The numbers that each function can give, as the header says.
-const GIVEN: [&[usize]; 13] = [
+const GIVEN: [&[usize]; 14] = [
     &[0],
     &[0, 1, 2, 3, 4, 5, 6, 7, 8, 18, 19],
     &[0, 1, 2, 3, 4, 6, 9, 10, 11, 12, 13, 14, 18, 20],
@@ -442,6 +459,7 @@ const GIVEN: [&[usize]; 13] = [
     &[0, 1, 8, 18],
     &[0],
     &[0, 1, 17, 18],
+    &[0, 23],
 ];
 
 /// Prints how often each number was given. Back: every one that can be was.

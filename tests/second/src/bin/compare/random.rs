@@ -1,7 +1,8 @@
 //! Seeded random and damaged inputs of every function.
 
 use crate::board::Board;
-use crate::call::{sixteen_bits, Bytes, Call, CENSUS_FEED, COMPLETE, INQUIRY};
+use crate::builds;
+use crate::call::{sixteen_bits, Bytes, Call, BUILD, CENSUS_FEED, COMPLETE, INQUIRY};
 use crate::censuses;
 use crate::editions;
 use crate::lent;
@@ -17,7 +18,7 @@ pub fn calls(board: &mut Board, seed: u64, count: u64, real: &[Vec<u8>]) {
         if board.is_done() {
             return;
         }
-        let mut call = match numbers.below(116) {
+        let mut call = match numbers.below(126) {
             0..=39 => submit(&mut numbers, &known),
             40..=55 => complete(&mut numbers),
             56..=76 => inquiry(&mut numbers, &known),
@@ -27,7 +28,8 @@ pub fn calls(board: &mut Board, seed: u64, count: u64, real: &[Vec<u8>]) {
             100..=105 => take(&mut numbers, &known),
             106..=108 => intake_inquiry(&mut numbers, &known),
             109 => intake_roll(&mut numbers, &known),
-            _ => feed(&mut numbers, &known),
+            110..=115 => feed(&mut numbers, &known),
+            _ => build(&mut numbers),
         };
         if numbers.once_in(3) {
             damage(&mut call, &mut numbers);
@@ -71,9 +73,14 @@ fn shown(board: &mut Board, call: &mut Call, length: u16) -> Option<Vec<u8>> {
     (answer.number == 0).then(|| from[..answer.count].to_vec())
 }
 
-/// Changes, cuts or extends one of the lent pieces. A census has one size.
+/// Changes, cuts or extends one of the lent pieces. A census has one size; the
+/// builder is lent none, and its order is changed.
 fn damage(call: &mut Call, numbers: &mut Numbers) {
     let at = match call.function {
+        BUILD => {
+            call.record.order = builds::damaged(call.record.order, numbers);
+            return;
+        }
         CENSUS_FEED => 1,
         _ => numbers.below(call.pieces.len()),
     };
@@ -355,6 +362,14 @@ fn feed(numbers: &mut Numbers, known: &[Vec<u8>]) -> Call {
         block[106] |= 0x04;
     }
     lent::feed(&census, &block)
+}
+
+/// An order that some command makes, or any bytes for one.
+fn build(numbers: &mut Numbers) -> Call {
+    lent::build(match numbers.below(8) {
+        0 => Bytes(&numbers.bytes(28)).order().unwrap_or_default(),
+        _ => builds::any(numbers),
+    })
 }
 
 /// Up to 66 blocks, mostly few, with drives that come again.

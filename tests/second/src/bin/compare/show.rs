@@ -76,10 +76,7 @@ fn came_back(function: u8, from: &mut Bytes) -> Option<String> {
     Some(match function {
         call::EMPTY => format!("{:X?}", from.record()?),
         call::INQUIRY => inquiry(from)?,
-        call::SUBMIT => {
-            let (number, status) = (from.number(1)?, from.number(1)?);
-            format!("number {number} status {status:02X} {:X?}", from.order()?)
-        }
+        call::SUBMIT => submitted(from)?,
         call::COMPLETE => {
             let (number, status) = (from.number(1)?, from.number(1)?);
             let (lost, protocol) = (from.number(1)?, from.number(1)?);
@@ -105,8 +102,22 @@ fn came_back(function: u8, from: &mut Bytes) -> Option<String> {
             let next = call::census_in(from.take(52)?);
             format!("number {} {next:?}", from.number(1)?)
         }
+        call::BUILD => {
+            let (number, size) = (from.number(1)?, from.number(1)?);
+            let command = hex(from.take(16)?);
+            let submitted = submitted(from)?;
+            format!("number {number} size {size} command {command}; submitted: {submitted}")
+        }
         _ => roll(from)?,
     })
+}
+
+fn submitted(from: &mut Bytes) -> Option<String> {
+    let (number, status) = (from.number(1)?, from.number(1)?);
+    Some(format!(
+        "number {number} status {status:02X} {:X?}",
+        from.order()?
+    ))
 }
 
 fn counted(from: &mut Bytes) -> Option<String> {
