@@ -2,7 +2,7 @@
  * One record, lent to a long seeded run of submissions and completions in both editions, with refusals, PROTOCOL 15, drive errors, resets
  * over orders, host resets and records of other bytes between. A small model, written from docs/RULES.md, says after every step what must
  * have come back and what every lent byte must be; and a ledger, which knows nothing but what came back, says that every order that was
- * taken is ended or told lost once, or is still pending.
+ * taken is ended or told lost once, or is still pending. Each order is built into a command, which must make it again.
  */
 #include "piongseut.h"
 
@@ -390,6 +390,28 @@ static void draw(submitted *sent)
 /* Orders that carry an auxiliary number, and those whose length is of logical sectors that have not 512 bytes. */
 static unsigned auxiliaries, sectors;
 
+/* Orders that were built, and those that have an auxiliary number, which no command of 12 or 16 bytes makes. */
+static unsigned built_orders, unbuilt_orders;
+
+/* Whether an order that was taken is built into a command that makes it by itself, or is refused for its auxiliary number alone. */
+static int built_again(const piongseut_order *order)
+{
+    static const uint8_t registers[PIONGSEUT_REGISTERS_SIZE] = {0};
+    uint8_t sense[SENSE];
+    piongseut_record record = piongseut_record_empty();
+    const piongseut_build_answer built = piongseut_build(*order);
+    if (order->auxiliary) {
+        unbuilt_orders++;
+        return built.number == PIONGSEUT_REFUSED_ORDER && built.size == 0;
+    }
+    built_orders++;
+    const piongseut_submit_answer got =
+        piongseut_submit(&record, built.command, built.size, registers, sizeof registers, sense, 0, order->length,
+                         PIONGSEUT_EDITION_FIRST, PIONGSEUT_SENSE_UNSTATED, sense, SENSE);
+    return built.number == PIONGSEUT_ACCEPTED && built.command[0] == (order->extend ? 0x85 : 0xA1) &&
+           got.number == PIONGSEUT_ACCEPTED && memcmp(&got.order, order, sizeof *order) == 0;
+}
+
 static int submission(piongseut_record *record, const uint8_t *registers)
 {
     uint8_t sense[SENSE], wanted[SENSE], status = PIONGSEUT_NONE;
@@ -417,7 +439,8 @@ static int submission(piongseut_record *record, const uint8_t *registers)
         auxiliaries += order.auxiliary != 0;
         sectors += order.length != 0 && counts_sectors(&sent) && unit_of(&sent) != 512;
     }
-    if (got.number == PIONGSEUT_ACCEPTED && got.status == PIONGSEUT_NONE && !enter(got.order.protocol)) return 0;
+    if (got.number == PIONGSEUT_ACCEPTED && got.status == PIONGSEUT_NONE && !(enter(got.order.protocol) && built_again(&got.order)))
+        return 0;
     return got.number == number && got.status == status && memcmp(&got.order, &order, sizeof order) == 0 &&
            memcmp(sense, wanted, SENSE) == 0 && same_record(record);
 }
@@ -504,6 +527,7 @@ static int shown_all(void)
 {
     if (!seen[PIONGSEUT_REFUSED_OPCODE] || !seen[PIONGSEUT_REFUSED_FIELD] || !seen[PIONGSEUT_REFUSED_NO_BLOCK]) return 0;
     if (!seen[PIONGSEUT_REFUSED_DAMAGED] || !seen[PIONGSEUT_REFUSED_SERVICE_ACTION] || !auxiliaries || !sectors) return 0;
+    if (!built_orders || !unbuilt_orders) return 0;
     for (int number = PIONGSEUT_REFUSED_PROTOCOL; number <= PIONGSEUT_REFUSED_NOTHING_PENDING; number++)
         if (seen[number] == 0) return 0;
     for (int found = NOTHING; found < PENDING; found++)
@@ -543,8 +567,10 @@ int main(int count, char **words)
         return 1;
     }
     printf("ok %ld steps through one lent record: %u orders (%u ended, %u lost, %u dropped by the host, %u pending), %u busy, "
-           "%u errors, %u host resets, %u fixed and %u descriptor sense, %u auxiliary numbers, %u lengths of sectors\n",
+           "%u errors, %u host resets, %u fixed and %u descriptor sense, %u auxiliary numbers, %u lengths of sectors, "
+           "%u orders built again\n",
            steps, taken_orders, ended_orders, lost_orders, dropped_orders, orders_in(&record), seen[PIONGSEUT_REFUSED_PENDING],
-           completions[ORDER][0] + completions[RESET][0] + completions[BOTH][0], host_resets, told[1], told[0], auxiliaries, sectors);
+           completions[ORDER][0] + completions[RESET][0] + completions[BOTH][0], host_resets, told[1], told[0], auxiliaries, sectors,
+           built_orders);
     return 0;
 }

@@ -915,6 +915,126 @@ static void censuses(void)
     check(census_refused(census, sizeof block, DAMAGED), "a damaged block, 18");
 }
 
+/* What is built of an order has these bytes and zeros behind them, and submitted with nothing pending it makes the order. */
+static void built_as(piongseut_order order, const uint8_t *wanted, uint8_t size, const char *what)
+{
+    static const uint8_t zeros[PIONGSEUT_COMMAND_SIZE] = {0};
+    const piongseut_build_answer answer = piongseut_build(order);
+    piongseut_record record = piongseut_record_empty();
+    memset(sense, FILL, sizeof sense);
+    const piongseut_submit_answer again =
+        piongseut_submit(&record, answer.command, answer.size, registers, sizeof registers, block, 0, order.length,
+                         PIONGSEUT_EDITION_FIRST, PIONGSEUT_SENSE_UNSTATED, sense, sizeof sense);
+    check(answer.number == PIONGSEUT_ACCEPTED && answer.size == size && memcmp(answer.command, wanted, size) == 0 &&
+              memcmp(answer.command + size, zeros, (size_t)(PIONGSEUT_COMMAND_SIZE - size)) == 0 &&
+              again.number == PIONGSEUT_ACCEPTED && again.status == PIONGSEUT_NONE && same_order(&again.order, &order) &&
+              same_order(&record.order, &order) && untouched(sense, sizeof sense),
+          what);
+}
+
+static void not_built(piongseut_order order, const char *what)
+{
+    static const piongseut_build_answer wanted = {PIONGSEUT_REFUSED_ORDER, 0, {0}};
+    const piongseut_build_answer answer = piongseut_build(order);
+    check(memcmp(&answer, &wanted, sizeof wanted) == 0, what);
+}
+
+/* Orders by their fields, as the header has them: a write of 5 blocks of which every field says something, C6, and a reset. */
+static const piongseut_order long_write = {5 * 512, 0, 0x0102, 5, 0x0506, 0x0708, 0x090A, 6, 8, 0x40, 0xCA,
+                                           PIONGSEUT_PROTOCOL_PIO_DATA_OUT, 1, 1, PIONGSEUT_DIRECTION_TO_DRIVE};
+static const piongseut_order identify = {512, 0, 0, 1, 0, 0, 0, 0, 1, 0, 0xEC,
+                                         PIONGSEUT_PROTOCOL_PIO_DATA_IN, 0, 0, PIONGSEUT_DIRECTION_FROM_DRIVE};
+static const piongseut_order srst = {0, 0, 0, 0, 0, 0, 0, 14, 1, 0, 0, PIONGSEUT_PROTOCOL_SRST, 0, 0, PIONGSEUT_DIRECTION_NONE};
+
+static void built_commands(void)
+{
+    static const uint8_t c6[] = {0xA1, 0x08, 0x0E, 0, 1, 0, 0, 0, 0, 0xEC, 0, 0};
+    static const uint8_t check_power[] = {0xA1, 0x06, 0x20, 0, 0, 0, 0, 0, 0, 0xE5, 0, 0};
+    static const uint8_t reset[] = {0xA1, 0x02, 0xC0, 0, 0, 0, 0, 0, 0, 0, 0, 0};
+    static const uint8_t bytes[] = {0x85, 0x6B, 0xA6, 1, 2, 0, 5, 5, 6, 7, 8, 9, 10, 0x40, 0xCA, 0};
+    const piongseut_order power = {0, 0, 0, 0, 0, 0, 0, 0, 1, 0, 0xE5, PIONGSEUT_PROTOCOL_NON_DATA, 1, 0, PIONGSEUT_DIRECTION_NONE};
+    check(sizeof c6 == PIONGSEUT_COMMAND_SHORT_SIZE && sizeof bytes == PIONGSEUT_COMMAND_LONG_SIZE, "the sizes of built commands");
+    built_as(identify, c6, sizeof c6, "the order of C6 is built into C6");
+    built_as(power, check_power, sizeof check_power, "an order without data, CK_COND");
+    built_as(srst, reset, sizeof reset, "a reset in the short form");
+    built_as(long_write, bytes, sizeof bytes, "EXTEND: the long form, every field");
+}
+
+/* Data of so many bytes: BYTE_BLOCK and T_LENGTH are these. */
+static void built_with(uint32_t length, uint16_t features, uint16_t count, uint8_t bits, const char *what)
+{
+    uint8_t bytes[] = {0x85, 0x6B, (uint8_t)(0xA0 | bits), 0, 0, 0, 0, 5, 6, 7, 8, 9, 10, 0x40, 0xCA, 0};
+    piongseut_order order = long_write;
+    order.length = length;
+    order.features = features;
+    order.count = count;
+    bytes[3] = (uint8_t)(features >> 8);
+    bytes[4] = (uint8_t)features;
+    bytes[5] = (uint8_t)(count >> 8);
+    bytes[6] = (uint8_t)count;
+    built_as(order, bytes, sizeof bytes, what);
+}
+
+static void built_lengths(void)
+{
+    built_with(33553920, 7, 0xFFFF, 0x06, "the count in blocks, the most");
+    built_with(512, 512, 1, 0x06, "the count in blocks before the features in bytes");
+    built_with(512, 1, 512, 0x02, "the count in bytes before the features in blocks");
+    built_with(512, 1, 2, 0x05, "the features in blocks");
+    built_with(7, 7, 2, 0x01, "the features in bytes");
+    built_with(100, 7, 2, 0x03, "a length that neither has: as declared");
+    built_with(UINT32_MAX, 0, 0, 0x03, "the longest length");
+}
+
+/* An order with one field changed that no command can give it. */
+#define NOT_BUILT(of, field, value, what)   \
+    do {                                    \
+        piongseut_order changed = (of);     \
+        changed.field = (value);            \
+        not_built(changed, what);           \
+    } while (0)
+
+static void refused_fields(void)
+{
+    NOT_BUILT(identify, auxiliary, 1, "an auxiliary number, 23");
+    NOT_BUILT(identify, quiet_seconds, 3, "3 quiet seconds, 23");
+    NOT_BUILT(identify, sectors_per_block, 0, "no sectors per block, 23");
+    NOT_BUILT(identify, sectors_per_block, 3, "3 sectors per block, 23");
+    NOT_BUILT(identify, sectors_per_block, 256, "256 sectors per block, 23");
+    NOT_BUILT(identify, ck_cond, 2, "CK_COND 2, 23");
+    NOT_BUILT(long_write, extend, 2, "EXTEND 2, 23");
+    NOT_BUILT(long_write, extend, 0, "registers above FFh without EXTEND, 23");
+    NOT_BUILT(identify, protocol, 2, "protocol 2, 23");
+    NOT_BUILT(identify, protocol, 7, "protocol 7, 23");
+    NOT_BUILT(identify, protocol, 12, "protocol 12, 23");
+    NOT_BUILT(identify, protocol, PIONGSEUT_PROTOCOL_RETURN_RESPONSE_INFORMATION, "protocol 15, 23");
+    NOT_BUILT(identify, protocol, 16 + PIONGSEUT_PROTOCOL_PIO_DATA_IN, "protocol 20, 23");
+    NOT_BUILT(identify, length, 0, "data of length 0, 23");
+    NOT_BUILT(identify, direction, PIONGSEUT_DIRECTION_TO_DRIVE, "the wrong way, 23");
+    NOT_BUILT(identify, direction, PIONGSEUT_DIRECTION_NONE, "data no way, 23");
+    NOT_BUILT(identify, protocol, PIONGSEUT_PROTOCOL_NON_DATA, "a protocol without data, and data, 23");
+    NOT_BUILT(long_write, direction, 3, "direction 3, 23");
+}
+
+static void refused_resets(void)
+{
+    static const piongseut_order zeros = {0, 0, 0, 0, 0, 0, 0, 0, 0, 0, 0, 0, 0, 0, 0};
+    not_built(zeros, "zeros, which have no sectors, 23");
+    NOT_BUILT(srst, quiet_seconds, 30, "a reset with 30 quiet seconds, 23");
+    NOT_BUILT(srst, sectors_per_block, 2, "a reset with 2 sectors, 23");
+    NOT_BUILT(srst, length, 1, "a reset with a length, 23");
+    NOT_BUILT(srst, features, 1, "a reset with features, 23");
+    NOT_BUILT(srst, count, 1, "a reset with a count, 23");
+    NOT_BUILT(srst, lba_low, 1, "a reset with LBA low, 23");
+    NOT_BUILT(srst, lba_mid, 1, "a reset with LBA mid, 23");
+    NOT_BUILT(srst, lba_high, 1, "a reset with LBA high, 23");
+    NOT_BUILT(srst, device, 0x40, "a reset with a device, 23");
+    NOT_BUILT(srst, command, 0xEC, "a reset with a command, 23");
+    NOT_BUILT(srst, ck_cond, 1, "a reset with CK_COND, 23");
+    NOT_BUILT(srst, extend, 1, "a reset with EXTEND, 23");
+    NOT_BUILT(srst, direction, PIONGSEUT_DIRECTION_FROM_DRIVE, "a reset with a direction, 23");
+}
+
 int main(void)
 {
     version();
@@ -942,6 +1062,10 @@ int main(void)
     rolls();
     intakes();
     censuses();
+    built_commands();
+    built_lengths();
+    refused_fields();
+    refused_resets();
     printf("uses_all: %d passed, %d failed\n", passed, failed);
     return failed != 0;
 }
