@@ -299,12 +299,36 @@ static void feed(void)
     free(block.bytes);
 }
 
+/* The fields of an order, in their order. */
+static piongseut_order next_order(void)
+{
+    piongseut_order order;
+    uint16_t *const wide[] = {&order.features, &order.count, &order.lba_low, &order.lba_mid, &order.lba_high, &order.quiet_seconds,
+                              &order.sectors_per_block};
+    uint8_t *const narrow[] = {&order.device, &order.command, &order.protocol, &order.ck_cond, &order.extend, &order.direction};
+    order.length = (uint32_t)next_number();
+    order.auxiliary = (uint32_t)next_number();
+    for (size_t at = 0; at < sizeof wide / sizeof *wide; at++)
+        *wide[at] = (uint16_t)next_number();
+    for (size_t at = 0; at < sizeof narrow / sizeof *narrow; at++)
+        *narrow[at] = (uint8_t)next_number();
+    return order;
+}
+
+static void build(void)
+{
+    piongseut_build_answer answer = piongseut_build(next_order());
+    say("number", answer.number);
+    say("size", answer.size);
+    say_bytes("command", answer.command, sizeof answer.command);
+}
+
 static const struct {
     const char *name;
     void (*call)(void);
 } entries[] = {{"empty", empty},   {"inquiry", inquiry}, {"submit", submit}, {"complete", complete}, {"write83", write83},
                {"read83", read83}, {"roll", roll},       {"take", take},     {"block", block},       {"gather", gather},
-               {"feed", feed}};
+               {"feed", feed},     {"build", build}};
 
 int main(void)
 {

@@ -14,9 +14,10 @@ ROW_FILL = 0xEEEE
 START = {"block": "512 zero", "signature": "20 zero", "texts": "28 zero", "registers": "11 zero", "reply": "none", "ports": "none",
          "port": "0", "address": "none", "declared": "0", "edition": "first", "form": "2", "room": "600", "sense room": "24",
          "rows": "64", "run": "none"}
-OTHER_NAMES = ("command", "page", "blocks", "input", "haves", "stores", "have", "census")
+OTHER_NAMES = ("command", "page", "blocks", "input", "haves", "stores", "have", "census", "order")
 PROGRAMS = ("rollcall", "census")
 EDITIONS = {"first": 1, "later": 2}
+REFUSALS = {*range(1, 21), 23}
 
 Step = collections.namedtuple("Step", "entry lent wanted")
 Case = collections.namedtuple("Case", "name line text steps")
@@ -203,7 +204,7 @@ def unspelt(name, word):
         return {field: int(value) for field, value in (pair.split(":") for pair in word.split(";"))}
     if name in ("rows", "census"):
         return [] if word == "-" else [int(row) for row in word.split(",")]
-    if name in ("reply", "room", "sense", "record", "name", "store", "address"):
+    if name in ("reply", "room", "sense", "record", "name", "store", "address", "command"):
         return b"" if word == "-" else bytes.fromhex(word)
     return int(word)
 
@@ -419,6 +420,17 @@ class Trial:
                 self.want("census after a refusal", before, got["census"])
         return Outcome(got, {"census": lambda text: self.want("census", read_census(text), got["census"])}, always)
 
+    def build(self):
+        """The command is the front of what comes back, and behind it are zeros."""
+        order = read_order(self.lent["order"])
+        got = self.board.call("build", *(order[field] for field in ORDER_FIELDS))
+        self.made["built"] = built = got["command"][:got["size"]]
+        def always(named):
+            self.want("bytes behind the command", bytes(16 - len(built)), got["command"][len(built):])
+            if got["number"]:
+                self.want("size of a refusal", 0, got["size"])
+        return Outcome(got, self.bytes_are("command", built), always)
+
     def rollcall(self):
         return self.program("rollcall")
 
@@ -508,8 +520,8 @@ def entries():
 def page_checks(text, table, cases):
     tried = {step.entry for case in cases for step in case.steps}
     names = {word for case in cases for word in re.findall(r"^C\d+", case.name)}
-    yield "the table has a row for each number from 1 to 20", sorted(set(range(1, 21)) ^ set(table))
-    yield "every number has an example", sorted(set(range(21)) - numbers_in(cases))
+    yield "the table has a row for each number from 1 to 20 and for 23", sorted(REFUSALS ^ set(table))
+    yield "every number has an example", sorted(({0} | REFUSALS) - numbers_in(cases))
     yield "every entry has an example", sorted((entries() | set(PROGRAMS)) - tried)
     yield "C1 to C13 are among the examples", sorted({"C%d" % n for n in range(1, 14)} - names)
     yield "every definition that the page names is there", list(undefined(text))
