@@ -27,11 +27,12 @@ typedef struct {
     __typeof__(piongseut_intake_take) *take;
     __typeof__(piongseut_intake_gather) *gather;
     __typeof__(piongseut_census_feed) *feed;
+    __typeof__(piongseut_build) *build;
 } maker;
 
 #define MAKER(by)                                                                                                  \
     {by##_record_empty, by##_inquiry, by##_submit, by##_complete, by##_write_page83, by##_read_page83, by##_roll,  \
-     by##_intake_take, by##_intake_gather, by##_census_feed}
+     by##_intake_take, by##_intake_gather, by##_census_feed, by##_build}
 static const maker board = MAKER(piongseut);
 #ifdef PLAIN
 __typeof__(piongseut_record_empty) plain_record_empty;
@@ -44,6 +45,7 @@ __typeof__(piongseut_roll) plain_roll;
 __typeof__(piongseut_intake_take) plain_intake_take;
 __typeof__(piongseut_intake_gather) plain_intake_gather;
 __typeof__(piongseut_census_feed) plain_census_feed;
+__typeof__(piongseut_build) plain_build;
 static const maker plain_maker = MAKER(plain), *const plain = &plain_maker;
 #else
 static const maker *const plain = NULL;
@@ -58,6 +60,7 @@ typedef struct {
     uint8_t name[PIONGSEUT_NAME_SIZE];
     piongseut_ports ports;
     uint8_t address[PIONGSEUT_ADDRESS_SIZE];
+    piongseut_build_answer built;
     uint16_t rows[PIONGSEUT_ROLL_BLOCKS];
     _Alignas(64) uint8_t room[PIONGSEUT_ROLL_BLOCKS * PIONGSEUT_BLOCK_SIZE];
     _Alignas(64) uint8_t sense[32];
@@ -71,7 +74,7 @@ typedef void make(const measured *, const maker *, left *);
 struct measured {
     const char *name;
     unsigned target;     /* instructions, 0 where none is set */
-    size_t bytes;        /* what the call delivers: reply, sense bytes, order, record, name and ports, rows, a run, blocks, a census */
+    size_t bytes;        /* what the call delivers: reply, sense bytes, order, record, name and ports, rows, run, blocks, census, command */
     make *make;
     unsigned how;
     uint8_t command[32];
@@ -81,11 +84,11 @@ struct measured {
  * How a call is made: for a drive without a name, for a packet drive, with an order pending, with one that asks for registers,
  * with an intake that has a part of its block, with blocks that carry a checksum, for sense data in the fixed form and not among
  * descriptors, with a reset over the order, with both ports in page 83h, by the later edition, for a drive with logical sectors of 4096
- * bytes.
+ * bytes. What is built is an order with EXTEND, one without, or with quiet seconds that no command gives.
  */
 enum {
     TEXTS = 1, PACKET = 2, HELD = 4, CK_COND = 8, PART = 16, SUMMED = 32, FIXED = 64, OVER = 128, PORTS = 256, LATER = 512,
-    SECTORS = 1024
+    SECTORS = 1024, EXTEND = 2048, NO_ORDER = 4096
 };
 
 static _Alignas(64) uint8_t block[PIONGSEUT_BLOCK_SIZE], blocks[PIONGSEUT_ROLL_BLOCKS * PIONGSEUT_BLOCK_SIZE];
@@ -198,6 +201,16 @@ static void make_feed(const measured *one, const maker *by, left *to)
     to->census = answer.next;
 }
 
+/* A read of two sectors, whose length the count tells in blocks. */
+static void make_build(const measured *one, const maker *by, left *to)
+{
+    const piongseut_order order = {.length = 1024, .count = 2, .lba_low = 0x12, .lba_mid = 0x34, .lba_high = 0x56,
+                                   .quiet_seconds = one->how & NO_ORDER ? 3 : 0, .sectors_per_block = 1, .device = 0x40,
+                                   .command = one->how & EXTEND ? 0x25 : 0xC8, .protocol = PIONGSEUT_PROTOCOL_DMA,
+                                   .extend = one->how & EXTEND ? 1 : 0, .direction = PIONGSEUT_DIRECTION_FROM_DRIVE};
+    STACK_CALL(to->built = by->build(order));
+}
+
 __attribute__((noinline)) void bare_copy(uint8_t *to, const uint8_t *from, size_t count)
 {
     memcpy(to, from, count);
@@ -233,7 +246,7 @@ static void make_copy(const measured *one, const maker *by, left *to)
     else STACK_CALL(bare_copy(to->room, blocks, one->bytes));
 }
 
-enum { ORDER = sizeof(piongseut_order), RECORD = sizeof(piongseut_record) };
+enum { ORDER = sizeof(piongseut_order), RECORD = sizeof(piongseut_record), BUILT = sizeof(piongseut_build_answer) };
 
 static const measured calls[] = {
     {"inquiry, standard data", 140, 36, make_inquiry, 0, {0x12, 0, 0x00, 2, 0x3C}},
@@ -285,6 +298,9 @@ static const measured calls[] = {
     {"gather, 64 intakes", 0, sizeof blocks, make_gather, 0, {0}},
     {"census, one block", 0, sizeof(piongseut_census), make_feed, 0, {0}},
     {"census, one block, A5h", 0, sizeof(piongseut_census), make_feed, SUMMED, {0}},
+    {"build, EXTEND", 0, BUILT, make_build, EXTEND, {0}},
+    {"build, short form", 0, BUILT, make_build, 0, {0}},
+    {"build, refusal 23", 0, BUILT, make_build, NO_ORDER, {0}},
 };
 
 /* ---- Before and after a call ---- */

@@ -127,6 +127,14 @@ pub struct CensusAnswer {
     pub number: u8,
 }
 
+#[repr(C)]
+#[derive(Default)]
+pub struct Built {
+    number: u8,
+    size: u8,
+    command: [u8; 16],
+}
+
 // ---- Sense ----
 
 const FIELD: [u8; 3] = [0x05, 0x24, 0x00];
@@ -521,6 +529,67 @@ fn complete(record: &mut Pending, registers: &[u8], form: u8, sense: &mut [u8]) 
     Ok((status, (state == 2).then(|| older.protocol)))
 }
 
+// ---- The builder ----
+
+/// Whether some command gives an order these fields, but for seconds and sectors; a reset has nothing else.
+fn is_made(order: &Order) -> bool {
+    let registers = order.features | order.count | order.lba_low | order.lba_mid | order.lba_high;
+    let data = (order.length != 0, order.direction);
+    let fits = match order.protocol {
+        0 | 1 => {
+            let others = [order.device, order.command, order.ck_cond, order.extend];
+            data == (false, 0) && registers == 0 && others == [0; 4] && order.sectors_per_block == 1
+        }
+        3 | 8 | 9 => data == (false, 0),
+        4 | 10 => data == (true, 1),
+        5 | 11 => data == (true, 2),
+        6 => data == (true, 1) || data == (true, 2),
+        _ => false,
+    };
+    let upper = registers > 0xFF && order.extend == 0;
+    fits && !upper && order.auxiliary == 0 && order.ck_cond < 2 && order.extend < 2
+}
+
+/// Places 0 to 3 of the seconds, and 0 to 7 of the sectors.
+fn off_line_and_multiple_count(order: &Order) -> Option<(u8, u8)> {
+    let off_line = match order.quiet_seconds {
+        0 => 0,
+        2 => 1,
+        6 => 2,
+        14 => 3,
+        _ => return None,
+    };
+    let sectors = order.sectors_per_block;
+    (sectors.is_power_of_two() && sectors <= 128).then(|| (off_line, sectors.trailing_zeros() as u8))
+}
+
+/// BYTE_BLOCK and T_LENGTH: the first place that has the length.
+fn length_bits(order: &Order) -> u8 {
+    let (features, count) = (u32::from(order.features), u32::from(order.count));
+    match order.length {
+        0 => 0,
+        length if length == 512 * count => 6,
+        length if length == count => 2,
+        length if length == 512 * features => 5,
+        length if length == features => 1,
+        _ => 3,
+    }
+}
+
+fn build(order: &Order) -> Option<Built> {
+    let (off_line, multiple_count) = off_line_and_multiple_count(order).filter(|_| is_made(order))?;
+    let first = multiple_count << 5 | order.protocol << 1 | order.extend;
+    let second = off_line << 6 | order.ck_cond << 5 | u8::from(order.direction == 1) << 3 | length_bits(order);
+    let registers = [order.features, order.count, order.lba_low, order.lba_mid, order.lba_high];
+    let [[f, f0], [c, c0], [l, l0], [m, m0], [h, h0]] = registers.map(u16::to_be_bytes);
+    let (device, command) = (order.device, order.command);
+    Some(if order.extend == 1 {
+        Built { number: 0, size: 16, command: [0x85, first, second, f, f0, c, c0, l, l0, m, m0, h, h0, device, command, 0] }
+    } else {
+        Built { number: 0, size: 12, command: [0xA1, first, second, f0, c0, l0, m0, h0, device, command, 0, 0, 0, 0, 0, 0] }
+    })
+}
+
 // ---- The reader of page 83h, and the roll ----
 
 /// What a page 83h tells, but for the number.
@@ -778,4 +847,9 @@ pub unsafe extern "C" fn plain_census_feed(census: Census, block: *const u8, blo
         Ok(next) => CensusAnswer { next, number: 0 },
         Err(number) => CensusAnswer { next: census, number },
     }
+}
+
+#[no_mangle]
+pub extern "C" fn plain_build(order: Order) -> Built {
+    build(&order).unwrap_or(Built { number: 23, ..Built::default() })
 }
