@@ -1,5 +1,5 @@
 /* A command's way through the board: INQUIRY to the one entry, all else to the other, an
-   order that is taken to the drive and then to completion; and the log of it. */
+   order that is taken to the drive and then to completion; and the logs of it. */
 #include "bridge.h"
 
 #include <stdio.h>
@@ -63,7 +63,17 @@ static void keep(const bay *b)
         die("cannot write to the folder that PIONGSEUT_KEPT names");
 }
 
-/* ---- the log ---- */
+/* ---- the logs ---- */
+
+/* The file to append to that a variable names, or NULL where it is not set. */
+static FILE *log_of(const char *variable)
+{
+    const char *name = getenv(variable);
+    FILE *out = name ? fopen(name, "a") : NULL;
+    if (name && !out)
+        die("cannot write a file that PIONGSEUT_LOG or PIONGSEUT_ORDERS names");
+    return out;
+}
 
 static void put_hex(FILE *out, const uint8_t *bytes, size_t size)
 {
@@ -73,13 +83,9 @@ static void put_hex(FILE *out, const uint8_t *bytes, size_t size)
 
 static void log_command(const exchange *x, const char *who)
 {
-    const char *name = getenv("PIONGSEUT_LOG");
-    FILE *out = name ? fopen(name, "a") : NULL;
-    if (!out) {
-        if (name)
-            die("cannot write the file that PIONGSEUT_LOG names");
+    FILE *out = log_of("PIONGSEUT_LOG");
+    if (!out)
         return;
-    }
     fprintf(out, "%s ", who);
     put_hex(out, x->command, x->command_size);
     fprintf(out, " number=%u status=%02x moved=%zu ", x->number, x->status, x->moved);
@@ -90,6 +96,24 @@ static void log_command(const exchange *x, const char *who)
     fprintf(out, "sense=");
     put_hex(out, x->sense, sense_size(x));
     fputc('\n', out);
+    fclose(out);
+}
+
+/* An order that was taken, as the program build reads one. */
+static void log_order(const piongseut_order *o)
+{
+    static const char *const ways[] = {"none", "from", "to"};
+    FILE *out = log_of("PIONGSEUT_ORDERS");
+    if (!out)
+        return;
+    if (o->direction >= sizeof ways / sizeof *ways)
+        die("the board took an order of no direction");
+    fprintf(out, "length=%u auxiliary=0x%x features=0x%x count=0x%x ", (unsigned)o->length,
+            (unsigned)o->auxiliary, o->features, o->count);
+    fprintf(out, "lba_low=0x%x lba_mid=0x%x lba_high=0x%x quiet_seconds=%u sectors_per_block=%u ",
+            o->lba_low, o->lba_mid, o->lba_high, o->quiet_seconds, o->sectors_per_block);
+    fprintf(out, "device=0x%x command=0x%x protocol=%u ck_cond=%u extend=%u direction=%s\n", o->device,
+            o->command, o->protocol, o->ck_cond, o->extend, ways[o->direction]);
     fclose(out);
 }
 
@@ -124,6 +148,7 @@ static void pass_through(bay *b, exchange *x)
     x->auxiliary = s.order.auxiliary;
     if (s.number != PIONGSEUT_ACCEPTED || s.status != PIONGSEUT_NONE)
         return;
+    log_order(&s.order);
     if (s.order.length > x->declared)
         die("the board took an order longer than the host's buffer");
     /* a host that lends its buffer for the other direction gets no data and no status */

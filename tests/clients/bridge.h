@@ -21,7 +21,8 @@ void bay_fill(bay *b, const char *description);
 void bay_keep(bay *b, const char *name);
 
 /* Carries a command through. Where it reached the board, the file that the variable
-   PIONGSEUT_LOG names gets a line, which starts with who asked. */
+   PIONGSEUT_LOG names gets a line, which starts with who asked; and where it made an order,
+   so does the one that PIONGSEUT_ORDERS names, a line of the program build. */
 void bay_carry(bay *b, exchange *x, const char *who);
 
 #endif

@@ -2,9 +2,10 @@
    describes a drive it answers ioctl(SG_IO) as the Linux sg driver would, with the board
    and a simulated drive in the place of the hardware. Every other file is left alone.
 
-   PIONGSEUT_DATA  the folder of the IDENTIFY blocks
-   PIONGSEUT_LOG   a file that gets one line for each command that reached the board
-   PIONGSEUT_KEPT  a folder in which bays keep their records from one client to the next */
+   PIONGSEUT_DATA    the folder of the IDENTIFY blocks
+   PIONGSEUT_LOG     a file that gets one line for each command that reached the board
+   PIONGSEUT_ORDERS  a file that gets one line for each order that the board took
+   PIONGSEUT_KEPT    a folder in which bays keep their records from one client to the next */
 #define _GNU_SOURCE
 #include <errno.h>
 #include <linux/fs.h>

@@ -35,11 +35,12 @@ prepare() {
     export PIONGSEUT_DATA=$project/data/identify LC_ALL=C
 }
 
-# enter FOLDER: goes there, where the drives and the log of the board's answers then are.
+# enter FOLDER: goes there, where the drives, the log of the board's answers and that of the orders then are.
 enter() {
     cp "$clients"/drives/* "$1" && cd "$1" || return
-    export PIONGSEUT_LOG=$1/log
+    export PIONGSEUT_LOG=$1/log PIONGSEUT_ORDERS=$1/orders
     : >"$PIONGSEUT_LOG"
+    : >"$PIONGSEUT_ORDERS"
 }
 
 # Runs a client with the board under it.
