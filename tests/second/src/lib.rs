@@ -16,6 +16,7 @@ pub mod identify;
 pub mod inquiry;
 pub mod intake;
 pub mod lent;
+pub mod lines;
 pub mod order;
 pub mod packet;
 pub mod page83;
