@@ -490,7 +490,7 @@ def definitions(text):
 def undefined(text):
     for file, name in definitions(text):
         lines = file.read_text() if file and file.exists() else ""
-        if not re.search(r"^(abbrev|unfoldable) pub %s :" % re.escape(name), lines, re.M):
+        if not re.search(r"^((abbrev|unfoldable) pub|pub record) %s\b" % re.escape(name), lines, re.M):
             yield "%s has no %s" % (file, name)
 
 
