@@ -13,7 +13,8 @@ pub struct Shown {
     pub count: usize,
 }
 
-fn digit(number: u8) -> u8
+// The hexadecimal digit of a number.
+pub fn digit(number: u8) -> u8
     requires { ⌜ number < 16 ⌝ }
     ensures { λ r. ⌜ r ≡ glyph number ⌝ }
 {
