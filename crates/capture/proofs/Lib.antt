@@ -1,0 +1,2 @@
+-- The laws of captures, for the crates above.
+pub mod Laws

@@ -1,0 +1,2 @@
+-- The layout of a capture.
+pub mod Capture
