@@ -22,7 +22,7 @@ pub fn shown(spaced: bool, byte: u8) -> u8
 }
 
 // Byte i of a turned text: the other byte of its word. A last byte with no partner stays.
-fn turned_at(text: &[u8], i: usize, spaced: bool) -> u8
+pub fn turned_at(text: &[u8], i: usize, spaced: bool) -> u8
     requires { ⌜ i < length (now text) ⌝ }
     ensures { λ r. ⌜ r ≡ getD (map (Text·shown spaced) (turned (now (text .entry)))) i 0 ⌝ }
 {

@@ -1,0 +1,2 @@
+-- The laws of agreement, for the crates above.
+pub mod Laws

@@ -1,0 +1,2 @@
+-- How far two runs of bytes agree.
+pub mod Agreed
