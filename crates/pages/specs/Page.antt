@@ -11,9 +11,12 @@ use Rattle.rules.specs.Bits.{bit, bits}
 
 -- Standard data, 36 bytes (RULES 6.1): the RMB bit from word 0 bit 7; the vendor; 16 bytes of the turned model, in which zero
 -- bytes stay; the revision of the firmware text.
+abbrev pub standardHead : List ℕ → List ℕ
+standardHead block = 0x00 ∷ cond (bit 7 (word block 0)) 0x80 0x00 ∷ 0x05 ∷ 0x02 ∷ 0x1F ∷ 0x00 ∷ 0x00 ∷ 0x00 ∷ ata
+
 unfoldable pub standard : List ℕ → List ℕ
 standard block =
-    0x00 ∷ cond (bit 7 (word block 0)) 0x80 0x00 ∷ 0x05 ∷ 0x02 ∷ 0x1F ∷ 0x00 ∷ 0x00 ∷ 0x00 ∷ ata
+    standardHead block
     ++ take 16 (turned (model block))
     ++ revision (firmware block)
 
@@ -39,10 +42,16 @@ blockOrZeros block = cond (eqb (length block) 0) (replicate 512 0x00) block
 
 -- Page 89h, 572 bytes (RULES 6.5): the translator texts from byte 8 on, the signature from 36, the command code in 56, and the
 -- block from 60 on as it stands.
+abbrev pub informationHead : Bool → List ℕ → List ℕ
+informationHead packet block = typeByte packet block ∷ 0x89 ∷ 0x02 ∷ 0x38 ∷ 0x00 ∷ 0x00 ∷ 0x00 ∷ 0x00 ∷ []
+
+abbrev pub informationCode : Bool → List ℕ
+informationCode packet = commandCode packet ∷ 0x00 ∷ 0x00 ∷ 0x00 ∷ []
+
 unfoldable pub page89 : Bool → List ℕ → List ℕ → List ℕ → List ℕ
 page89 packet texts signature block =
-    typeByte packet block ∷ 0x89 ∷ 0x02 ∷ 0x38 ∷ 0x00 ∷ 0x00 ∷ 0x00 ∷ 0x00 ∷ []
+    informationHead packet block
     ++ texts
     ++ signature
-    ++ (commandCode packet ∷ 0x00 ∷ 0x00 ∷ 0x00 ∷ [])
+    ++ informationCode packet
     ++ blockOrZeros block

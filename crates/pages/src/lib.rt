@@ -8,7 +8,7 @@ ghost use lib.ListN.{length, take, replicate};
 ghost use Rattle.room.specs.Room.{Wrote};
 ghost use Rattle.rules.specs.Bits.{bit};
 ghost use Rattle.identify.specs.Block.{word, model};
-ghost use Rattle.pages.specs.Page.{standard, page00, page80, page89, typeByte, commandCode, blockOrZeros};
+ghost use Rattle.pages.specs.Page.{standardHead, standard, page00, page80, informationHead, informationCode, page89, typeByte, commandCode, blockOrZeros};
 ghost use Rattle.pages.specs.Helpers.{WholeOrNone};
 
 // RMB, the removable medium bit of standard data.
@@ -22,20 +22,18 @@ fn removable(block: &[u8]) -> u8
 }
 
 // The first 16 bytes of the model, as they stand in the block.
-fn product(block: &[u8]) -> &[u8]
+pub fn product(block: &[u8]) -> &[u8]
     requires { ⌜ length (now block) ≡ 512 ⌝ }
     ensures { λ r. ⌜ now r ≡ take 16 (model (now (block .entry))) ⌝ }
 {
     &identify::model(block)[..16]
 }
 
-// Standard data.
-pub fn put_standard(room: &mut [u8], block: &[u8])
-    requires { ⌜ length (now block) ≡ 512 ⌝ }
-    ensures { λ _. ⌜ Wrote (now (room .entry)) 0 (standard (now (block .entry))) (now (room .exit)) ⌝ }
+// Standard data up to its product text: byte 1 RMB, 2 VERSION, 3 RESPONSE DATA FORMAT, 4 ADDITIONAL LENGTH, 8 VENDOR IDENTIFICATION.
+pub fn standard_head(block: &[u8]) -> [u8; 16]
+    ensures { λ r. ⌜ r ≡ standardHead (now (block .entry)) ⌝ }
 {
-    // byte 1 RMB, 2 VERSION, 3 RESPONSE DATA FORMAT, 4 ADDITIONAL LENGTH, 8 VENDOR IDENTIFICATION
-    let head = [
+    [
         0x00u8,
         removable(block),
         0x05u8,
@@ -52,7 +50,15 @@ pub fn put_standard(room: &mut [u8], block: &[u8])
         b' ',
         b' ',
         b' ',
-    ];
+    ]
+}
+
+// Standard data.
+pub fn put_standard(room: &mut [u8], block: &[u8])
+    requires { ⌜ length (now block) ≡ 512 ⌝ }
+    ensures { λ _. ⌜ Wrote (now (room .entry)) 0 (standard (now (block .entry))) (now (room .exit)) ⌝ }
+{
+    let head = standard_head(block);
     room::put_short(room, 0, &head);
     // PRODUCT IDENTIFICATION
     texts::put_turned(room, 16, product(block));
@@ -63,29 +69,23 @@ pub fn put_standard(room: &mut [u8], block: &[u8])
 pub const STANDARD_SIZE: usize = 36;
 
 // Page 00h, the pages that the board serves.
+pub const SUPPORTED: [u8; 8] = [0x00, 0x00, 0x00, 0x04, 0x00, 0x80, 0x83, 0x89];
+
 pub fn put_supported(room: &mut [u8])
     ensures { λ _. ⌜ Wrote (now (room .entry)) 0 page00 (now (room .exit)) ⌝ }
 {
-    let bytes = [
-        0x00u8,
-        0x00u8,
-        0x00u8,
-        0x04u8,
-        0x00u8,
-        0x80u8,
-        0x83u8,
-        0x89u8,
-    ];
-    room::put_short(room, 0, &bytes);
+    room::put_short(room, 0, &SUPPORTED);
 }
+
+// What page 80h starts with: PAGE CODE, PAGE LENGTH.
+pub const SERIAL_HEAD: [u8; 4] = [0x00, 0x80, 0x00, 0x14];
 
 // Page 80h, the serial number.
 pub fn put_serial(room: &mut [u8], block: &[u8])
     requires { ⌜ length (now block) ≡ 512 ⌝ }
     ensures { λ _. ⌜ Wrote (now (room .entry)) 0 (page80 (now (block .entry))) (now (room .exit)) ⌝ }
 {
-    let head = [0x00u8, 0x80u8, 0x00u8, 0x14u8];
-    room::put_short(room, 0, &head);
+    room::put_short(room, 0, &SERIAL_HEAD);
     texts::put_spaced(room, 4, identify::serial(block));
 }
 
@@ -110,6 +110,29 @@ fn command_code(packet: bool) -> u8
         return 0xA1;
     }
     0xEC
+}
+
+// Page 89h up to its texts.
+pub fn information_head(packet: bool, block: &[u8]) -> [u8; 8]
+    ensures { λ r. ⌜ r ≡ informationHead packet (now (block .entry)) ⌝ }
+{
+    [
+        type_byte(packet, block),
+        0x89u8,
+        0x02u8,
+        0x38u8,
+        0x00u8,
+        0x00u8,
+        0x00u8,
+        0x00u8,
+    ]
+}
+
+// What stands before the block in it: the COMMAND CODE.
+pub fn information_code(packet: bool) -> [u8; 4]
+    ensures { λ r. ⌜ r ≡ informationCode packet ⌝ }
+{
+    [command_code(packet), 0x00u8, 0x00u8, 0x00u8]
 }
 
 // 512 bytes of zero, where the drive gave no block.
@@ -146,23 +169,13 @@ pub fn put_information(room: &mut [u8], packet: bool, texts: &[u8], signature: &
     requires { ⌜ (length (now texts) ≡ 28) × ((length (now signature) ≡ 20) × WholeOrNone (now block)) ⌝ }
     ensures { λ _. ⌜ Wrote (now (room .entry)) 0 (page89 packet (now (texts .entry)) (now (signature .entry)) (now (block .entry))) (now (room .exit)) ⌝ }
 {
-    let head = [
-        type_byte(packet, block),
-        0x89u8,
-        0x02u8,
-        0x38u8,
-        0x00u8,
-        0x00u8,
-        0x00u8,
-        0x00u8,
-    ];
+    let head = information_head(packet, block);
     room::put_short(room, 0, &head);
     // SAT VENDOR IDENTIFICATION, SAT PRODUCT IDENTIFICATION, SAT PRODUCT REVISION LEVEL
     room::put_short(room, 8, texts);
     // ATA DEVICE SIGNATURE
     room::put_short(room, 36, signature);
-    // COMMAND CODE
-    let code = [command_code(packet), 0x00u8, 0x00u8, 0x00u8];
+    let code = information_code(packet);
     room::put_short(room, 56, &code);
     // ATA IDENTIFY DEVICE DATA
     put_block(room, 60, block);

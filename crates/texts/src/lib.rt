@@ -139,7 +139,7 @@ fn all_spaces(text: &[u8]) -> bool
 }
 
 // The two words of a firmware text that are shown as its revision, as they stand.
-fn revision_part(firmware: &[u8]) -> &[u8]
+pub fn revision_part(firmware: &[u8]) -> &[u8]
     requires { ⌜ length (now firmware) ≡ 8 ⌝ }
     ensures part { λ r. ⌜ now r ≡ revisionPart (now (firmware .entry)) ⌝ }
     ensures size { λ r. ⌜ length (now r) ≡ 4 ⌝ }

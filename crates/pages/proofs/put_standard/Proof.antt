@@ -14,8 +14,8 @@ use borrow.Author.Needs.{needs}
 use Rattle.pages.proofs.put_standard.Statement.{statement}
 use Rattle.pages.proofs.put_standard.Tie as tie
 
-removable-requires : tie.Need-removable-requires
-removable-requires c κs = search needs
+standard-head-requires : tie.Need-standard-head-requires
+standard-head-requires c κs = search needs
 
 slice-aggregate-put-short : tie.Need-slice-aggregate-put-short
 slice-aggregate-put-short c = search needs
@@ -50,14 +50,14 @@ returns c =
     let h = p .before .before .before .before in
     let a = h .before .before .before .before .before .before in
     let block = a .args .block .now in
-    beside (beside {t = take 16 (turned (model block))} (rw (h .before .before .before .removable .ensures) at (h .put-short .ensures)) (rw (p .product .ensures, ← cut-turned 8 (model block)) at (c .before .before .before .before .before .before .before .put-turned .ensures)) refl)
+    beside (beside {t = take 16 (turned (model block))} (rw (h .before .before .before .standard-head .ensures) at (h .put-short .ensures)) (rw (p .product .ensures, ← cut-turned 8 (model block)) at (c .before .before .before .before .before .before .before .put-turned .ensures)) refl)
     (rw (c .before .before .before .firmware .ensures) at (c .before .before .put-revision .ensures)) (omega (arith, length-product block (a .pre)))
 
 pub put-standard-spec : {M : Type 1} → statement M
 put-standard-spec =
     tie.close
     (tie.spec
-    removable-requires
+    standard-head-requires
     slice-aggregate-put-short
     put-short-requires
     product-requires
