@@ -132,7 +132,7 @@ module _ (block : List ℕ) (ports : Ports) (address : List ℕ) (h : length blo
   unfolding page83
   page-size = omega (arith, length-append (driveDescriptor block) (portsPart ports address), length-drive block h, length-ports ports address g)
 
-  named-or-not : page83 block ports address ≡ head (length (driveDescriptor block) + portsSize ports) ++ driveDescriptor block ++ portsPart ports address
+  pub named-or-not : page83 block ports address ≡ head (length (driveDescriptor block) + portsSize ports) ++ driveDescriptor block ++ portsPart ports address
   unfolding page83
   named-or-not =
       let l : length (driveDescriptor block ++ portsPart ports address) ≡ length (driveDescriptor block) + portsSize ports =

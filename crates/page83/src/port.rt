@@ -18,14 +18,14 @@ pub const RELATIVE_HEAD: [u8; 6] = [0x61, 0x94, 0x00, 0x04, 0x00, 0x00];
 pub const SAS_HEAD: [u8; 4] = [0x61, 0x93, 0x00, 0x08];
 
 // Whether the relative target port is chosen.
-fn relative_chosen(ports: Ports) -> bool
+pub fn relative_chosen(ports: Ports) -> bool
     ensures { λ r. ⌜ r ≡ relativeChosen ports ⌝ }
 {
     ports.chosen % 2 == 1
 }
 
 // Whether the SAS target port is chosen.
-fn sas_chosen(ports: Ports) -> bool
+pub fn sas_chosen(ports: Ports) -> bool
     ensures { λ r. ⌜ r ≡ sasChosen ports ⌝ }
 {
     ports.chosen / 2 % 2 == 1
