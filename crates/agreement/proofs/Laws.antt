@@ -1,13 +1,13 @@
 -- Laws of how far two runs of bytes agree, over runs of every length.
 use mathlib.Core.Path.{_≡_, refl, sym, ap, _∙_}
 use mathlib.Core.Bool.{Bool, true, false, cond}
-use mathlib.Core.List.{List, [], _∷_, _++_}
+use mathlib.Core.List.{List, [], _∷_, _++_, append-nil}
 use Prim.Native.Nat.{ℕ, zero, suc, _+_, _-_, _≤_, _<_, min}
 use native.Mathlib.Nat.{le-of-suc-le-suc, not-suc-le-zero}
 use native.Mathlib.Omega.{arith}
 use lib.Dec.{eqb}
 use lib.ListN.{length, getD, take, drop, length-drop}
-use lib.Seq.{ext-getD, getD-drop}
+use lib.Seq.{ext-getD, getD-drop, drop-drop}
 use borrow.Author.Count.{below-more}
 use borrow.Author.Tests.{eq-eqb, ne-eqb, eqb-true, eqb-false}
 use Rattle.agreement.specs.Agreed.{agreed}
@@ -128,3 +128,27 @@ module _ {run : List ℕ} {at n : ℕ} {piece : List ℕ} {i : ℕ} (c : Compari
 
   pub ends-alike : n ≤ i → at + i ≡ at + agreed (drop at run) piece
   ends-alike h = ends (λ p q e. omega (arith, c .upto, c .most, length-drop at run))
+
+-- The place up to which a run agrees, from a place on, is within the run.
+pub reaches-within : (run p : List ℕ) (at : ℕ) {r : ℕ} → r ≡ at + agreed (drop at run) p → at ≤ length run → r ≤ length run
+reaches-within run p at e h = omega (arith, e, agrees (drop at run) p .within-first, length-drop at run)
+
+-- Two pieces one behind the other, the second from the place `next` on: the run differs from the first, or goes on with the second.
+module _ (run p q : List ℕ) (at next : ℕ) (n : at + length p ≡ next) {r : ℕ} (e : r ≡ at + agreed (drop at run) p) where
+  pub differs-first : r < next → r ≡ at + agreed (drop at run) (p ++ q)
+  differs-first h = rw (stops q p (drop at run) (omega (arith, e, n, h))) e
+
+  pub then-second : {t : ℕ} → next ≤ r → t ≡ next + agreed (drop next run) q → t ≡ at + agreed (drop at run) (p ++ q)
+  then-second {t} h g =
+      rw (goes-on q p (drop at run) (omega (arith, e, n, h)), drop-drop (length p) at run, n) (omega (arith, g, n))
+
+-- With nothing, nothing agrees; with its own front, all of it.
+pub agreed-none : (s : List ℕ) → agreed s [] ≡ 0
+unfolding agreed
+agreed-none [] = refl
+agreed-none (x ∷ s) = refl
+
+pub agreed-own : (run : List ℕ) (at n next : ℕ) → at + n ≡ next → next ≤ length run → next ≡ at + agreed (drop at run) (take n (drop at run))
+agreed-own run at n next e h =
+    let l = length-drop at run in
+    omega (arith, e, h, rw append-nil at (agreed-front n (drop at run) []))
