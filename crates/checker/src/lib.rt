@@ -1,0 +1,163 @@
+// Checker: another maker's bridge, by a capture of what it answers: each field beside what our writers give for the block, texts and
+// signature that its own page 89h tells. Nothing is written to be compared. The rules stand in specs/: Check and Ports.
+mod named;
+mod plain;
+
+ghost use mathlib.Core.Path.{_≡_};
+ghost use mathlib.Core.Bool.{Bool};
+ghost use mathlib.Core.List.{List, [], _∷_};
+ghost use Prim.Native.Nat.{_<_};
+ghost use lib.ListN.{length, getD};
+ghost use Rattle.capture.specs.Capture.{field, fields, others};
+ghost use Rattle.checker.specs.Check.{accepted as Check·accepted, differs as Check·differs, refused as Check·refused, judged, expected, signatureOf, blockOf, check as Check·check};
+ghost use Rattle.checker.specs.Helpers.{beside, frontBeside};
+
+// What comes back: the refusal's number or 0; 1 where the capture is accepted; the tag of the first field at fault; and the place: of
+// its first differing byte, or that at which the layout is broken.
+#[repr(C)]
+pub struct Checked {
+    pub number: u8,
+    pub accepted: u8,
+    pub tag: u8,
+    pub place: usize,
+}
+
+// A field beside a page: whether they are the same, and the place up to which they agree.
+pub struct Held {
+    pub same: bool,
+    pub place: usize,
+}
+
+fn accepted() -> Checked
+    ensures { λ r. ⌜ r ≡ Check·accepted ⌝ }
+{
+    Checked {
+        number: 0,
+        accepted: 1,
+        tag: 0,
+        place: 0,
+    }
+}
+
+fn differs(tag: u8, place: usize) -> Checked
+    ensures { λ r. ⌜ r ≡ Check·differs tag place ⌝ }
+{
+    Checked {
+        number: 0,
+        accepted: 0,
+        tag,
+        place,
+    }
+}
+
+fn refused(number: u8, place: usize) -> Checked
+    ensures { λ r. ⌜ r ≡ Check·refused number place ⌝ }
+{
+    Checked {
+        number,
+        accepted: 0,
+        tag: 0,
+        place,
+    }
+}
+
+// The signature that page 89h tells.
+fn signature(page: &[u8]) -> &[u8]
+    requires { ⌜ length (now page) ≡ 572 ⌝ }
+    ensures { λ r. ⌜ now r ≡ signatureOf (now (page .entry)) ⌝ }
+{
+    &page[36..56]
+}
+
+// The block that it tells.
+fn block(page: &[u8]) -> &[u8]
+    requires { ⌜ length (now page) ≡ 572 ⌝ }
+    ensures bytes { λ r. ⌜ now r ≡ blockOf (now (page .entry)) ⌝ }
+    ensures size { λ r. ⌜ length (now r) ≡ 512 ⌝ }
+{
+    &page[60..572]
+}
+
+// A field other than 89h, beside what it is to be: that of tag k.
+fn other(k: usize, bytes: &[u8], information: &[u8]) -> Held
+    requires { ⌜ (k < 4) × (length (now information) ≡ 572) ⌝ }
+    ensures { λ r. ⌜ r ≡ beside (now (bytes .entry)) (expected (now (information .entry)) (field (getD others k 0) (now (bytes .entry)))) ⌝ }
+{
+    if k == 0 {
+        return plain::supported(bytes);
+    }
+    if k == 1 {
+        return plain::standard(bytes, block(information));
+    }
+    if k == 2 {
+        return plain::serial(bytes, block(information));
+    }
+    named::names(bytes, block(information))
+}
+
+// The field of tag k, where it stands at the front of what is left.
+fn front(k: usize, rest: &[u8], information: &[u8]) -> Held
+    requires { ⌜ (k < 4) × (length (now information) ≡ 572) ⌝ }
+    ensures { λ r. ⌜ r ≡ frontBeside (now (information .entry)) (getD others k 0) (now (rest .entry)) ⌝ }
+{
+    if capture::stands(rest, capture::OTHERS[k]) {
+        return other(k, capture::content(rest), information);
+    }
+    Held {
+        same: true,
+        place: 0,
+    }
+}
+
+// The fields before 89h, up to the first at fault.
+fn others_checked(capture: &[u8], information: &[u8]) -> Checked
+    requires { ⌜ length (now information) ≡ 572 ⌝ }
+    ensures { λ r. ⌜ r ≡ judged (now (information .entry)) (fields others (now (capture .entry))) ⌝ }
+{
+    let mut at = 0;
+    let mut k = 0;
+    while k < 4 {
+        let rest = &capture[at..];
+        let held = front(k, rest, information);
+        if !held.same {
+            return differs(capture::OTHERS[k], held.place);
+        }
+        at += capture::taken(rest, capture::OTHERS[k]);
+        k += 1;
+    }
+    accepted()
+}
+
+// 89h itself.
+fn information_checked(information: &[u8]) -> Checked
+    requires { ⌜ length (now information) ≡ 572 ⌝ }
+    ensures { λ r. ⌜ r ≡ judged (now (information .entry)) (field 0x89 (now (information .entry)) ∷ []) ⌝ }
+{
+    let held = plain::information(information);
+    if held.same {
+        return accepted();
+    }
+    differs(0x89, held.place)
+}
+
+// The check of a capture.
+pub fn check(capture: &[u8]) -> Checked
+    ensures { λ r. ⌜ r ≡ Check·check (now (capture .entry)) ⌝ }
+{
+    let laid = capture::layout(capture);
+    if !laid.holds {
+        return refused(21, laid.place);
+    }
+    let information = capture::information(capture);
+    if packet::packet_drive(signature(information)) {
+        return refused(22, 0);
+    }
+    if checksum::damaged(block(information)) {
+        return refused(18, 0);
+    }
+    let others = others_checked(capture, information);
+    if others.accepted == 0 {
+        return others;
+    }
+    information_checked(information)
+}
