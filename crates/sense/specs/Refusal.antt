@@ -30,7 +30,7 @@ pub record Row : Type 0 where
 abbrev pub row : ℕ → ℕ → ℕ → ℕ → Row
 row status key asc ascq = record { status = status; key = key; asc = asc; ascq = ascq }
 
--- A row for each number from 0 to 23. Numbers 0, 21 and 22 are no refusal, and answer nothing here.
+-- A row for each number from 0 to 23. Number 0 is no refusal, and answers nothing here.
 abbrev pub table : List Row
 table =
     row noStatus 0x00 0x00 0x00
@@ -74,8 +74,9 @@ table =
     ∷ row checkCondition 0x05 0x24 0x00
     -- 20: another command with the opcode of the 32-byte form
     ∷ row checkCondition 0x05 0x24 0x00
-    -- 21, 22: no refusal
+    -- 21: a capture whose layout is broken
     ∷ row noStatus 0x00 0x00 0x00
+    -- 22: a capture of a packet drive
     ∷ row noStatus 0x00 0x00 0x00
     -- 23: an order that no command makes
     ∷ row noStatus 0x00 0x00 0x00
