@@ -88,6 +88,8 @@ extern "C" {
 #define PIONGSEUT_REFUSED_DAMAGED 18         /* none           a lent block is damaged */
 #define PIONGSEUT_REFUSED_PORT 19            /* 02h, 05 24 00  page 83h with a relative target port that is not 1 or 2 */
 #define PIONGSEUT_REFUSED_SERVICE_ACTION 20  /* 02h, 05 24 00  opcode 7Fh, and bytes 7 to 9 are not 18h 1Fh F0h */
+#define PIONGSEUT_REFUSED_CAPTURE 21         /* none           a capture whose layout is broken, or whose page 89h has not 572 bytes */
+#define PIONGSEUT_REFUSED_PACKET 22          /* none           a capture of a packet drive, which is not judged */
 #define PIONGSEUT_REFUSED_ORDER 23           /* none           no command of 12 or 16 bytes makes the order that is to be built */
 
 /* Sizes of what is lent, in bytes; of sense room the least. */
@@ -361,6 +363,25 @@ PIONGSEUT_HAS_SIZE(piongseut_read_page83_answer, 74)
  * page that the writer cannot make.
  */
 piongseut_read_page83_answer piongseut_read_page83(const uint8_t *page, size_t page_size);
+
+/* ---- Another maker's bridge ---- */
+
+typedef struct {
+    uint8_t number;   /* 0, or a refusal: 21, 22 or 18 */
+    uint8_t accepted; /* 1: each field is what our writers give; 0: it is not, or the capture is refused */
+    uint8_t tag;      /* of the first field at fault; 0 where none is, or where the capture is refused */
+    size_t place;     /* of its first differing byte, counted from its first byte; of refusal 21, of the broken field's tag in the
+                         capture, or the capture's size where page 89h is missing; else 0 */
+} piongseut_check_answer;
+PIONGSEUT_HAS_SIZE(piongseut_check_answer, 16)
+
+/*
+ * Checks a capture of any size: fields of a tag, two length bytes, high byte first, and as many bytes, one behind the other. Tag 01h is
+ * standard data; 00h, 80h, 83h and 89h are the pages. Tags rise; 89h is there, the last. Each field is held beside what the board gives
+ * for the block, the texts and the signature of its page 89h; page 83h beside that of every choice of ports, where the furthest place
+ * counts. Where one is the start of the other, the shorter size is the place.
+ */
+piongseut_check_answer piongseut_check(const uint8_t *capture, size_t capture_size);
 
 /* ---- The roll ---- */
 

@@ -1,6 +1,7 @@
 // Piongseut: the board as a C library. Every entry is a thin function over the one that is proved below it, and promises the same
 // in the same words; include/piongseut.h says it to C. Only what stands here is visible in the archive.
 use builder::Built;
+use checker::Checked;
 use inquiry::Answer;
 use intake::Intake;
 use intake::Offered;
@@ -26,6 +27,7 @@ ghost use Rattle.passthrough.specs.Complete.{outcome as completeOutcome, comple
 ghost use Rattle.builder.specs.Builder.{build as buildRule};
 ghost use Rattle.page83.specs.Page83.{outcome as writtenOutcome, write as writeRule};
 ghost use Rattle.page83_reader.specs.Reader.{read as readRule};
+ghost use Rattle.checker.specs.Check.{check as checkRule};
 ghost use Rattle.roll.specs.Roll.{outcome as rollOutcome, roll as rollRule};
 ghost use Rattle.intake.specs.Intake.{empty as emptyIntake, outcome as takenOutcome, taken as takenRule, offered};
 ghost use Rattle.received.specs.Received.{gatherOutcome, gatherOf};
@@ -129,6 +131,14 @@ pub extern "C" fn piongseut_read_page83(page: &[u8]) -> Name
     ensures { λ r. ⌜ r ≡ readRule (now (page .entry)) ⌝ }
 {
     page83_reader::read(page)
+}
+
+// Checks a capture of another maker's bridge.
+#[no_mangle]
+pub extern "C" fn piongseut_check(capture: &[u8]) -> Checked
+    ensures { λ r. ⌜ r ≡ checkRule (now (capture .entry)) ⌝ }
+{
+    checker::check(capture)
 }
 
 // The roll of a run of blocks.
