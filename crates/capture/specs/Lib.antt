@@ -1,2 +1,3 @@
 -- The layout of a capture.
 pub mod Capture
+pub mod Layout
