@@ -22,14 +22,14 @@
 #include <unistd.h>
 
 enum { RECORD_EMPTY, INQUIRY, SUBMIT, COMPLETE, WRITE, READ, ROLL, INTAKE_EMPTY, INTAKE_TAKE, INTAKE_INQUIRY, INTAKE_ROLL,
-       CENSUS_EMPTY, CENSUS_FEED, BUILD, FUNCTIONS };
+       CENSUS_EMPTY, CENSUS_FEED, BUILD, CHECK, FUNCTIONS };
 
 #define GUARD 64
 #define PIECES 8
 #define RECORD_GUARD 255
 #define BATCH_MOST (4u << 20)
 
-static const unsigned pieces_of[FUNCTIONS] = {0, 8, 4, 2, 3, 1, 2, 0, 2, 8, 4, 0, 2, 0};
+static const unsigned pieces_of[FUNCTIONS] = {0, 8, 4, 2, 3, 1, 2, 0, 2, 8, 4, 0, 2, 0, 1};
 
 static uint8_t batch[BATCH_MOST];
 static uint8_t answers[4 * BATCH_MOST];
@@ -252,7 +252,7 @@ static void tell_stack(void)
     static const char *const names[FUNCTIONS] = {
         "record_empty", "inquiry",      "submit",      "complete",     "write_page83", "read_page83",
         "roll",         "intake_empty", "intake_take", "intake_block", "intake_gather", "census_empty",
-        "census_feed",  "build",
+        "census_feed",  "build",        "check",
     };
     for (unsigned at = 0; at < FUNCTIONS; at++)
         fprintf(stderr, "piongseut_%s %zu %lu\n", names[at], used[at].deepest, used[at].calls);
@@ -441,6 +441,16 @@ static void call_build(void)
     put_submit(&answer);
 }
 
+static void call_check(void)
+{
+    piongseut_check_answer answer;
+    CALL(CHECK, answer = piongseut_check(LENT(0)));
+    put(answer.number, 1);
+    put(answer.accepted, 1);
+    put(answer.tag, 1);
+    put(answer.place, 8);
+}
+
 static void call(unsigned function, uint32_t declared)
 {
     piongseut_record empty;
@@ -461,7 +471,8 @@ static void call(unsigned function, uint32_t declared)
     case INTAKE_ROLL: call_intake_roll(); break;
     case CENSUS_EMPTY: call_census_empty(); break;
     case CENSUS_FEED: call_census_feed(); break;
-    default: call_build(); break;
+    case BUILD: call_build(); break;
+    default: call_check(); break;
     }
 }
 

@@ -9,6 +9,7 @@
 
 pub mod build;
 pub mod census;
+pub mod check;
 pub mod completion;
 pub mod fault;
 pub mod fields;
@@ -28,6 +29,7 @@ pub mod sense;
 
 pub use build::{build, Built};
 pub use census::{census_empty, census_feed, Census, Fed};
+pub use check::{check, Checked};
 pub use completion::{complete, Ended};
 pub use inquiry::{inquiry, Inquiry};
 pub use intake::{block_size, gather, intake_empty, intake_take, Counted, Intake, RunTaken};

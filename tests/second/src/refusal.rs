@@ -49,13 +49,18 @@ pub const DAMAGED: u8 = 18;
 pub const PORT: u8 = 19;
 /// It is another command of the opcode 7Fh.
 pub const SERVICE_ACTION: u8 = 20;
+/// These bytes are no fields one behind the other, or lack page 89h.
+pub const CAPTURE: u8 = 21;
+/// Of a packet drive nothing is judged.
+pub const PACKET: u8 = 22;
 /// No command makes the order.
 pub const ORDER: u8 = 23;
 
 /// The column Status of the table.
 pub fn status(number: u8) -> u8 {
     match number {
-        SIZE | ROOM | NOTHING_PENDING | NOT_A_PAGE | CENSUS | DAMAGED | ORDER => NO_STATUS,
+        SIZE | ROOM | NOTHING_PENDING | NOT_A_PAGE | CENSUS | DAMAGED => NO_STATUS,
+        CAPTURE | PACKET | ORDER => NO_STATUS,
         PENDING => BUSY,
         PORT if fault::planted("ports-number-without-status") => NO_STATUS,
         _ => CHECK_CONDITION,

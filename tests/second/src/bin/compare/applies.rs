@@ -2,7 +2,7 @@
 //! pair that can apply together was tried, and that the first one answered.
 
 use crate::call::{
-    census_in, numbers_in, Call, BUILD, CENSUS_FEED, COMPLETE, INQUIRY, INTAKE_INQUIRY,
+    census_in, numbers_in, Call, BUILD, CENSUS_FEED, CHECK, COMPLETE, INQUIRY, INTAKE_INQUIRY,
     INTAKE_ROLL, INTAKE_TAKE, READ, ROLL, SUBMIT, WRITE,
 };
 use crate::lent::carries_name;
@@ -13,7 +13,7 @@ pub type Set = u32;
 
 /// The pairs that can apply together, by function. The fields of a command
 /// that is short or has another opcode are not looked at.
-pub const PAIRS: [(u8, &[(usize, usize)]); 8] = [
+pub const PAIRS: [(u8, &[(usize, usize)]); 9] = [
     (INQUIRY, &IN_INQUIRY),
     (SUBMIT, &IN_SUBMIT),
     (COMPLETE, &[(1, 15)]),
@@ -22,6 +22,7 @@ pub const PAIRS: [(u8, &[(usize, usize)]); 8] = [
     (INTAKE_INQUIRY, &IN_INQUIRY),
     (INTAKE_ROLL, &[(1, 8), (1, 18), (8, 18)]),
     (CENSUS_FEED, &[(1, 17), (17, 18)]),
+    (CHECK, &[(18, 21), (18, 22), (21, 22)]),
 ];
 
 const IN_INQUIRY: [(usize, usize); 24] = [
@@ -112,8 +113,8 @@ fn set(conditions: &[(usize, bool)]) -> Set {
 
 /// The refusals in the order in which they are asked (RULES 3): 2 and 3 never
 /// apply together, nor do 5, 7, 8 and 19 with 9 to 14.
-const IN_ORDER: [u32; 21] = [
-    1, 17, 18, 2, 3, 4, 20, 5, 9, 10, 11, 12, 6, 19, 7, 8, 13, 14, 15, 16, 23,
+const IN_ORDER: [u32; 23] = [
+    1, 17, 21, 22, 18, 2, 3, 4, 20, 5, 9, 10, 11, 12, 6, 19, 7, 8, 13, 14, 15, 16, 23,
 ];
 
 /// The refusal that answers; 0 where none applies.
@@ -161,6 +162,7 @@ pub fn to(call: &Call, edition: u8) -> Set {
             (18, is_damaged(&call.pieces[1])),
         ]),
         BUILD => set(&[(23, order_is_refused(&call.record.order))]),
+        CHECK => to_capture(&call.pieces[0]),
         _ => 0,
     }
 }
@@ -204,6 +206,28 @@ fn a_reset(order: &Order) -> Order {
         protocol: order.protocol,
         ..Order::default()
     }
+}
+
+/// What a capture lacks, and what its page 89h says where that can be found.
+fn to_capture(capture: &[u8]) -> Set {
+    let (mut rest, mut last, mut whole) = (capture, None, true);
+    let mut found = 0;
+    while let [tag, high, low, behind @ ..] = rest {
+        let size = usize::from(*high) << 8 | usize::from(*low);
+        whole &= last < Some(*tag) && matches!(tag, 0x00 | 0x01 | 0x80 | 0x83 | 0x89);
+        last = Some(*tag);
+        let bytes = match behind.get(..size) {
+            Some(bytes) => bytes,
+            None => break,
+        };
+        if *tag == 0x89 && size == 572 {
+            let packet = bytes[41] == 0x14 && bytes[42] == 0xEB;
+            found = set(&[(22, packet), (18, is_damaged(&bytes[60..]))]);
+        }
+        whole &= *tag != 0x89 || size == 572;
+        rest = &behind[size..];
+    }
+    found | set(&[(21, !whole || !rest.is_empty() || last != Some(0x89))])
 }
 
 /// A full census, or one of which a grouping has more or fewer blocks.

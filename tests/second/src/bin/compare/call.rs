@@ -22,8 +22,9 @@ pub const CENSUS_FEED: u8 = 12;
 /// The record's order is built, and the command submitted with nothing pending
 /// and the order's length declared: two functions, too.
 pub const BUILD: u8 = 13;
+pub const CHECK: u8 = 14;
 
-pub const NAMES: [&str; 14] = [
+pub const NAMES: [&str; 15] = [
     "empty",
     "inquiry",
     "submit",
@@ -38,10 +39,11 @@ pub const NAMES: [&str; 14] = [
     "census_empty",
     "census_feed",
     "build, submit",
+    "check",
 ];
 
 /// The lent pieces of each function, in the header's order.
-pub const PIECES: [&[&str]; 14] = [
+pub const PIECES: [&[&str]; 15] = [
     &[],
     &[
         "command",
@@ -74,6 +76,7 @@ pub const PIECES: [&[&str]; 14] = [
     &[],
     &["census", "block"],
     &[],
+    &["capture"],
 ];
 
 /// The pieces of a function that are 16-bit numbers.
@@ -254,7 +257,8 @@ impl Call {
             INTAKE_ROLL => self.answer_intake_roll(&record, out),
             CENSUS_EMPTY => answer_census_empty(&record, out),
             CENSUS_FEED => self.answer_census_feed(&record, out),
-            _ => answer_build(stated, &mut record, out),
+            BUILD => answer_build(stated, &mut record, out),
+            _ => self.answer_check(&record, out),
         };
         put_size(start, out);
         Said {
@@ -411,6 +415,15 @@ impl Call {
         put_record(record, out);
         self.pieces.iter().for_each(|piece| out.extend(piece));
         fed.number
+    }
+
+    fn answer_check(&self, record: &Record, out: &mut Vec<u8>) -> u8 {
+        let checked = second::check(&self.pieces[0]);
+        out.extend([checked.number, checked.accepted, checked.tag]);
+        out.extend((checked.place as u64).to_le_bytes());
+        put_record(record, out);
+        out.extend(&self.pieces[0]);
+        checked.number
     }
 }
 

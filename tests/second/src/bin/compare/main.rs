@@ -14,6 +14,7 @@ mod applies;
 mod board;
 mod builds;
 mod call;
+mod captures;
 mod censuses;
 mod editions;
 mod inquiries;
@@ -127,7 +128,7 @@ fn real_blocks(folder: &str) -> io::Result<Vec<Vec<u8>>> {
 /// A class of inputs that takes nothing but the board.
 type Inputs = fn(&mut Board);
 
-const CLASSES: [(&str, Inputs); 66] = [
+const CLASSES: [(&str, Inputs); 74] = [
     ("soundings C1 to C13", soundings::numbered),
     ("the other soundings", soundings::others),
     ("published examples", soundings::published),
@@ -218,6 +219,14 @@ const CLASSES: [(&str, Inputs); 66] = [
     ("intake: rolls, damaged stores", intakes::roll_damaged),
     ("census: words 53, 80 and 88", censuses::words),
     ("census: refusals alone and together", censuses::refusals),
+    ("check: refusals alone and together", captures::refusals),
+    ("check: every byte damaged", captures::bytes),
+    ("check: cut, and bytes behind", captures::cut),
+    ("check: lengths right and wrong", captures::lengths),
+    ("check: tags in every order", captures::tags),
+    ("check: two fields that differ", captures::two_fields),
+    ("check: page 83h of every choice, damaged", captures::ports),
+    ("check: right and wrong descriptors", captures::descriptors),
 ];
 
 fn pages_written(board: &mut Board) {
@@ -288,6 +297,8 @@ struct Agreed {
     orders: bool,
     /// Orders of commands, and what they are built into.
     builds: bool,
+    /// The board's own replies and what the check says of them.
+    captures: bool,
 }
 
 /// The classes that take a seed or the real blocks.
@@ -316,6 +327,10 @@ fn seeded(board: &mut Board, asked: &Asked) -> Agreed {
     let builds = builds::made_again(board, asked.seed, &asked.real);
     board.class("resets: records of random bytes");
     resets::any_records(board, asked.seed);
+    board.class("check: the board's own replies");
+    let captures = captures::own_replies(board, &asked.real);
+    board.class("check: pages that others make");
+    captures::foreign(board, &asked.real);
     board.class("sequences through one record");
     let orders = orders::sequences(board, asked.seed);
     if asked.calls > 0 {
@@ -331,6 +346,7 @@ fn seeded(board: &mut Board, asked: &Asked) -> Agreed {
         editions,
         orders,
         builds,
+        captures,
     }
 }
 
@@ -383,6 +399,10 @@ fn own_answers(agreed: &Agreed, report: &mut Report) {
     report.check(
         agreed.builds,
         "build: an order of a command is built into one that makes it again",
+    );
+    report.check(
+        agreed.captures,
+        "check: the board's own replies are accepted exactly where 89h is among them",
     );
 }
 
@@ -445,7 +465,7 @@ fn pairs_tried(board: &Board, report: &mut Report) {
 }
 
 /// The numbers that each function can give, as the header says.
-const GIVEN: [&[usize]; 14] = [
+const GIVEN: [&[usize]; 15] = [
     &[0],
     &[0, 1, 2, 3, 4, 5, 6, 7, 8, 18, 19],
     &[0, 1, 2, 3, 4, 6, 9, 10, 11, 12, 13, 14, 18, 20],
@@ -460,6 +480,7 @@ const GIVEN: [&[usize]; 14] = [
     &[0],
     &[0, 1, 17, 18],
     &[0, 23],
+    &[0, 18, 21, 22],
 ];
 
 /// Prints how often each number was given. Back: every one that can be was.

@@ -3,6 +3,7 @@
 use crate::board::Board;
 use crate::builds;
 use crate::call::{sixteen_bits, Bytes, Call, BUILD, CENSUS_FEED, COMPLETE, INQUIRY};
+use crate::captures;
 use crate::censuses;
 use crate::editions;
 use crate::lent;
@@ -18,7 +19,7 @@ pub fn calls(board: &mut Board, seed: u64, count: u64, real: &[Vec<u8>]) {
         if board.is_done() {
             return;
         }
-        let mut call = match numbers.below(126) {
+        let mut call = match numbers.below(134) {
             0..=39 => submit(&mut numbers, &known),
             40..=55 => complete(&mut numbers),
             56..=76 => inquiry(&mut numbers, &known),
@@ -29,7 +30,11 @@ pub fn calls(board: &mut Board, seed: u64, count: u64, real: &[Vec<u8>]) {
             106..=108 => intake_inquiry(&mut numbers, &known),
             109 => intake_roll(&mut numbers, &known),
             110..=115 => feed(&mut numbers, &known),
-            _ => build(&mut numbers),
+            116..=125 => build(&mut numbers),
+            _ => {
+                let block = block(&mut numbers, &known);
+                captures::random(&mut numbers, &block)
+            }
         };
         if numbers.once_in(3) {
             damage(&mut call, &mut numbers);

@@ -108,6 +108,11 @@ fn came_back(function: u8, from: &mut Bytes) -> Option<String> {
             let submitted = submitted(from)?;
             format!("number {number} size {size} command {command}; submitted: {submitted}")
         }
+        call::CHECK => {
+            let (number, accepted) = (from.number(1)?, from.number(1)?);
+            let (tag, place) = (from.number(1)?, from.number(8)?);
+            format!("number {number} accepted {accepted} tag {tag:02X} place {place}")
+        }
         _ => roll(from)?,
     })
 }
