@@ -323,12 +323,23 @@ static void build(void)
     say_bytes("command", answer.command, sizeof answer.command);
 }
 
+static void check(void)
+{
+    piece capture = next_piece();
+    piongseut_check_answer answer = piongseut_check(capture.bytes, capture.size);
+    say("number", answer.number);
+    say("accepted", answer.accepted);
+    say("tag", answer.tag);
+    say("place", answer.place);
+    free(capture.bytes);
+}
+
 static const struct {
     const char *name;
     void (*call)(void);
 } entries[] = {{"empty", empty},   {"inquiry", inquiry}, {"submit", submit}, {"complete", complete}, {"write83", write83},
                {"read83", read83}, {"roll", roll},       {"take", take},     {"block", block},       {"gather", gather},
-               {"feed", feed},     {"build", build}};
+               {"feed", feed},     {"build", build},     {"check", check}};
 
 int main(void)
 {

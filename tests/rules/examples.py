@@ -14,10 +14,9 @@ ROW_FILL = 0xEEEE
 START = {"block": "512 zero", "signature": "20 zero", "texts": "28 zero", "registers": "11 zero", "reply": "none", "ports": "none",
          "port": "0", "address": "none", "declared": "0", "edition": "first", "form": "2", "room": "600", "sense room": "24",
          "rows": "64", "run": "none"}
-OTHER_NAMES = ("command", "page", "blocks", "input", "haves", "stores", "have", "census", "order")
-PROGRAMS = ("rollcall", "census")
+OTHER_NAMES = ("command", "page", "blocks", "input", "haves", "stores", "have", "census", "order", "capture")
+PROGRAMS = ("rollcall", "census", "bridgecheck")
 EDITIONS = {"first": 1, "later": 2}
-REFUSALS = {*range(1, 21), 23}
 
 Step = collections.namedtuple("Step", "entry lent wanted")
 Case = collections.namedtuple("Case", "name line text steps")
@@ -431,11 +430,23 @@ class Trial:
                 self.want("size of a refusal", 0, got["size"])
         return Outcome(got, self.bytes_are("command", built), always)
 
+    def check(self):
+        """Of accepted, tag and place those that are not named are zero."""
+        got = self.board.call("check", self.bytes("capture"))
+        def always(named):
+            for name in ("accepted", "tag", "place"):
+                if name not in named:
+                    self.want(name, 0, got[name])
+        return Outcome(got, {}, always)
+
     def rollcall(self):
         return self.program("rollcall")
 
     def census(self):
         return self.program("census")
+
+    def bridgecheck(self):
+        return self.program("bridgecheck")
 
     def program(self, name):
         """Every line that it prints."""
@@ -520,8 +531,8 @@ def entries():
 def page_checks(text, table, cases):
     tried = {step.entry for case in cases for step in case.steps}
     names = {word for case in cases for word in re.findall(r"^C\d+", case.name)}
-    yield "the table has a row for each number from 1 to 20 and for 23", sorted(REFUSALS ^ set(table))
-    yield "every number has an example", sorted(({0} | REFUSALS) - numbers_in(cases))
+    yield "the table has a row for each number from 1 to 23", sorted(set(range(1, 24)) ^ set(table))
+    yield "every number has an example", sorted(set(range(24)) - numbers_in(cases))
     yield "every entry has an example", sorted((entries() | set(PROGRAMS)) - tried)
     yield "C1 to C13 are among the examples", sorted({"C%d" % n for n in range(1, 14)} - names)
     yield "every definition that the page names is there", list(undefined(text))
