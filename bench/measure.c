@@ -28,11 +28,12 @@ typedef struct {
     __typeof__(piongseut_intake_gather) *gather;
     __typeof__(piongseut_census_feed) *feed;
     __typeof__(piongseut_build) *build;
+    __typeof__(piongseut_check) *check;
 } maker;
 
 #define MAKER(by)                                                                                                  \
     {by##_record_empty, by##_inquiry, by##_submit, by##_complete, by##_write_page83, by##_read_page83, by##_roll,  \
-     by##_intake_take, by##_intake_gather, by##_census_feed, by##_build}
+     by##_intake_take, by##_intake_gather, by##_census_feed, by##_build, by##_check}
 static const maker board = MAKER(piongseut);
 #ifdef PLAIN
 __typeof__(piongseut_record_empty) plain_record_empty;
@@ -46,6 +47,7 @@ __typeof__(piongseut_intake_take) plain_intake_take;
 __typeof__(piongseut_intake_gather) plain_intake_gather;
 __typeof__(piongseut_census_feed) plain_census_feed;
 __typeof__(piongseut_build) plain_build;
+__typeof__(piongseut_check) plain_check;
 static const maker plain_maker = MAKER(plain), *const plain = &plain_maker;
 #else
 static const maker *const plain = NULL;
@@ -74,7 +76,8 @@ typedef void make(const measured *, const maker *, left *);
 struct measured {
     const char *name;
     unsigned target;     /* instructions, 0 where none is set */
-    size_t bytes;        /* what the call delivers: reply, sense bytes, order, record, name and ports, rows, run, blocks, census, command */
+    size_t bytes;        /* what the call delivers: reply, sense bytes, order, record, name and ports, rows, run, blocks, census, command;
+                            of a check, which delivers nothing, what it reads */
     make *make;
     unsigned how;
     uint8_t command[32];
@@ -84,12 +87,17 @@ struct measured {
  * How a call is made: for a drive without a name, for a packet drive, with an order pending, with one that asks for registers,
  * with an intake that has a part of its block, with blocks that carry a checksum, for sense data in the fixed form and not among
  * descriptors, with a reset over the order, with both ports in page 83h, by the later edition, for a drive with logical sectors of 4096
- * bytes. What is built is an order with EXTEND, one without, or with quiet seconds that no command gives.
+ * bytes, with a capture whose page 83h has a port that there is not. What is built is an order with EXTEND, one without, or with quiet
+ * seconds that no command gives.
  */
 enum {
     TEXTS = 1, PACKET = 2, HELD = 4, CK_COND = 8, PART = 16, SUMMED = 32, FIXED = 64, OVER = 128, PORTS = 256, LATER = 512,
-    SECTORS = 1024, EXTEND = 2048, NO_ORDER = 4096
+    SECTORS = 1024, EXTEND = 2048, NO_ORDER = 4096, DIFFERS = 8192
 };
+
+/* Five fields, each behind a tag and two length bytes. */
+enum { CAPTURE_SIZE = 5 * 3 + PIONGSEUT_PAGE00_SIZE + PIONGSEUT_STANDARD_SIZE + PIONGSEUT_PAGE80_SIZE + PIONGSEUT_PAGE83_WWN_SIZE + 20 +
+                      PIONGSEUT_PAGE89_SIZE };
 
 static _Alignas(64) uint8_t block[PIONGSEUT_BLOCK_SIZE], blocks[PIONGSEUT_ROLL_BLOCKS * PIONGSEUT_BLOCK_SIZE];
 static _Alignas(64) uint8_t page[PIONGSEUT_PAGE83_MOST_SIZE];
@@ -98,6 +106,14 @@ static uint8_t signature[PIONGSEUT_SIGNATURE_SIZE], texts[PIONGSEUT_TEXTS_SIZE],
 static uint8_t reply[7] = {5, 0, 0, 3, 0, 0x80, 0x83};
 static uint8_t address[PIONGSEUT_ADDRESS_SIZE] = {0x50, 0x01, 0x43, 0x80, 0x12, 0x34, 0x56, 0x71};
 static size_t page_size; /* of the page that was written last; it is the one to be read */
+static _Alignas(64) uint8_t capture[CAPTURE_SIZE];
+
+/* What was shown of the drive with a name, of page 83h with both ports: the fields of captures in their order. */
+static struct {
+    uint8_t tag;
+    size_t size;
+    uint8_t bytes[PIONGSEUT_PAGE89_SIZE];
+} shown[5] = {{0x00, 0, {0}}, {0x01, 0, {0}}, {0x80, 0, {0}}, {0x83, 0, {0}}, {0x89, 0, {0}}};
 
 /* ---- The calls ---- */
 
@@ -211,6 +227,13 @@ static void make_build(const measured *one, const maker *by, left *to)
     STACK_CALL(to->built = by->build(order));
 }
 
+static void make_check(const measured *one, const maker *by, left *to)
+{
+    piongseut_check_answer answer;
+    STACK_CALL(answer = by->check(capture, one->bytes));
+    SAID(to, answer.number, answer.accepted, answer.tag, answer.place);
+}
+
 __attribute__((noinline)) void bare_copy(uint8_t *to, const uint8_t *from, size_t count)
 {
     memcpy(to, from, count);
@@ -301,6 +324,8 @@ static const measured calls[] = {
     {"build, EXTEND", 0, BUILT, make_build, EXTEND, {0}},
     {"build, short form", 0, BUILT, make_build, 0, {0}},
     {"build, refusal 23", 0, BUILT, make_build, NO_ORDER, {0}},
+    {"check, accepted", 0, CAPTURE_SIZE, make_check, 0, {0}},
+    {"check, 83h differs", 0, CAPTURE_SIZE, make_check, DIFFERS, {0}},
 };
 
 /* ---- Before and after a call ---- */
@@ -335,6 +360,30 @@ static void put_sectors(int told)
     memcpy(block + 234, told ? "\x00\x08\0\0" : "\0\0\0\0", 4);
 }
 
+/* Keeps the reply to an INQUIRY for the captures. */
+static void keep(const measured *one, const left *by)
+{
+    const uint8_t tag = one->command[1] & 1 ? one->command[2] : 0x01;
+    for (unsigned i = 0; one->make == make_inquiry && (one->how & ~(unsigned)PORTS) == 0 && i < 5; i++)
+        if (shown[i].tag == tag) {
+            shown[i].size = (size_t)by->said[3];
+            memcpy(shown[i].bytes, by->room, shown[i].size);
+        }
+}
+
+static void prepare_capture(int differs)
+{
+    uint8_t *to = capture;
+    for (unsigned i = 0; i < 5; i++) {
+        to[0] = shown[i].tag;
+        to[1] = (uint8_t)(shown[i].size >> 8);
+        to[2] = (uint8_t)shown[i].size;
+        memcpy(to + 3, shown[i].bytes, shown[i].size);
+        if (shown[i].tag == 0x83) to[3 + 23] = differs ? 3 : 2;
+        to += 3 + shown[i].size;
+    }
+}
+
 /* 64 different drives are the most that a roll compares: each has its number in the serial number, and in the name if any. */
 static void prepare(const measured *one, left *to)
 {
@@ -353,6 +402,7 @@ static void prepare(const measured *one, left *to)
         end_block(its, one->how & SUMMED);
         haves[i] = PIONGSEUT_BLOCK_SIZE;
     }
+    if (one->make == make_check) prepare_capture(one->how & DIFFERS);
     memset(to, 0, sizeof *to);
     to->record = record_for(one);
 }
@@ -438,6 +488,7 @@ int main(int words, char **word)
     registers[PIONGSEUT_REGISTER_STATUS] = 0x50;
     for (size_t i = 0; i < sizeof calls / sizeof *calls; i++) {
         (strcmp(word[1], "count") == 0 ? count : take_time)(&calls[i]);
+        keep(&calls[i], &by_board);
         if (calls[i].make != make_write) continue;
         memcpy(page, by_board.room, sizeof page);
         page_size = calls[i].bytes;

@@ -135,6 +135,15 @@ pub struct Built {
     command: [u8; 16],
 }
 
+#[repr(C)]
+#[derive(Default)]
+pub struct Checked {
+    number: u8,
+    accepted: u8,
+    tag: u8,
+    place: usize,
+}
+
 // ---- Sense ----
 
 const FIELD: [u8; 3] = [0x05, 0x24, 0x00];
@@ -712,6 +721,83 @@ fn census_feed(mut census: Census, block: &[u8]) -> Result<Census, u8> {
     Ok(census)
 }
 
+// ---- The check of a capture ----
+
+const TAGS: [u8; 5] = [0x00, 0x01, 0x80, 0x83, 0x89];
+
+/// The fields by their places among the tags, and page 89h; or the place where the layout is broken.
+fn fields(capture: &[u8]) -> Result<([Option<&[u8]>; 5], &[u8; 572]), usize> {
+    let mut found = [None; 5];
+    let (mut at, mut next) = (0, 0);
+    while at < capture.len() {
+        let tag = next + TAGS[next..].iter().position(|&tag| tag == capture[at]).ok_or(at)?;
+        let size = capture.get(at + 1..at + 3).map(|two| usize::from(two[0]) << 8 | usize::from(two[1])).ok_or(at)?;
+        let bytes = capture.get(at + 3..at + 3 + size).ok_or(at)?;
+        if TAGS[tag] == 0x89 && size != 572 {
+            return Err(at);
+        }
+        found[tag] = Some(bytes);
+        next = tag + 1;
+        at += 3 + size;
+    }
+    let page = found[4].and_then(|page| page.try_into().ok()).ok_or(capture.len())?;
+    Ok((found, page))
+}
+
+/// Where a field differs from its page, if it does.
+fn differs(field: &[u8], page: &[u8]) -> Option<usize> {
+    if field == page {
+        return None;
+    }
+    Some(field.iter().zip(page).take_while(|(byte, wanted)| byte == wanted).count())
+}
+
+/// Only a choice whose length stands in byte 3 gets further, and no port and no address further than the field's own.
+fn differs83(field: &[u8], block: &Block) -> Option<usize> {
+    let name = if carries_name(block) { 16 } else { 76 };
+    let more = field.get(3).map_or(0, |&length| (usize::from(length) + 4).wrapping_sub(name));
+    let relative = if more == 8 || more == 20 { Some(if field.get(name + 7) == Some(&2) { 2 } else { 1 }) } else { None };
+    let mut own = [0; 8];
+    let there = field.get(name + more.min(20).saturating_sub(8)..).unwrap_or(&[]);
+    own.iter_mut().zip(there).for_each(|(byte, &its)| *byte = its);
+    let address = if more == 12 || more == 20 { Some(&own) } else { None };
+    let mut page = [0; 96];
+    let size = page83(block, Path { relative, address }, usize::MAX, &mut page).unwrap_or(0);
+    differs(field, &page[..size])
+}
+
+/// The field's tag and place, of the first that differs.
+fn first_fault(found: &[Option<&[u8]>; 5], page: &[u8; 572], drive: &Drive, block: &Block) -> Option<(u8, usize)> {
+    let place = |at: usize| match (found[at]?, at) {
+        (field, 0) => differs(field, &[0x00, 0x00, 0x00, 0x04, 0x00, 0x80, 0x83, 0x89]),
+        (field, 1) => differs(field, &standard_data(block)),
+        (field, 2) => differs(field, &page80(block)),
+        (field, 3) => differs83(field, block),
+        _ => differs(&page[..60], &page89_head(drive, false)),
+    };
+    (0..5).find_map(|at| Some((TAGS[at], place(at)?)))
+}
+
+fn check(capture: &[u8]) -> Checked {
+    let (found, page) = match fields(capture) {
+        Ok(found) => found,
+        Err(place) => return Checked { number: 21, place, ..Checked::default() },
+    };
+    let path = Path { relative: None, address: None };
+    let (texts, signature, block) = (&page[8..36], &page[36..56], &page[60..]);
+    if signature[5..7] == [0x14, 0xEB] {
+        return Checked { number: 22, ..Checked::default() };
+    }
+    if let Err(number) = sound(block) {
+        return Checked { number, ..Checked::default() };
+    }
+    let drive = Drive::new(block, signature, texts, &[], Some(path));
+    match drive.and_then(|drive| first_fault(&found, page, &drive, drive.block?)) {
+        Some((tag, place)) => Checked { tag, place, ..Checked::default() },
+        None => Checked { accepted: 1, ..Checked::default() },
+    }
+}
+
 // ---- The C calls. Each lends its pieces for as many bytes as the numbers behind the pointers say. ----
 
 use std::slice::{from_raw_parts as lent, from_raw_parts_mut as lent_mut};
@@ -772,6 +858,13 @@ pub unsafe extern "C" fn plain_complete(
         Ok((status, lost)) => Ended { number: 0, status, lost: lost.is_some().into(), lost_protocol: lost.unwrap_or(0) },
         Err(number) => Ended { number, status: refuse(number, form, sense), lost: 0, lost_protocol: 0 },
     }
+}
+
+/// # Safety
+/// As the header says of piongseut_check.
+#[no_mangle]
+pub unsafe extern "C" fn plain_check(capture: *const u8, capture_size: usize) -> Checked {
+    check(lent(capture, capture_size))
 }
 
 /// # Safety

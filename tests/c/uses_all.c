@@ -1035,6 +1035,75 @@ static void refused_resets(void)
     NOT_BUILT(srst, direction, PIONGSEUT_DIRECTION_FROM_DRIVE, "a reset with a direction, 23");
 }
 
+static uint8_t captured[PIONGSEUT_PAGE89_SIZE + 128];
+static size_t captured_size;
+
+/* Puts a field with what the room holds behind those that are there. */
+static void capture(uint8_t tag, size_t size)
+{
+    uint8_t *to = captured + captured_size;
+    to[0] = tag;
+    to[1] = (uint8_t)(size >> 8);
+    to[2] = (uint8_t)size;
+    memcpy(to + 3, room, size);
+    captured_size += 3 + size;
+}
+
+/* The board's own replies of C1's drive with both ports, all five. */
+static void capture_all(void)
+{
+    static const uint8_t tags[5] = {0x00, 0x01, 0x80, 0x83, 0x89};
+    const piongseut_ports ports = {PIONGSEUT_PORT_RELATIVE | PIONGSEUT_PORT_SAS, 2};
+    captured_size = 0;
+    prepare();
+    for (unsigned at = 0; at < sizeof tags; at++) {
+        const uint8_t evpd = tags[at] != 0x01, page = evpd ? tags[at] : 0x00;
+        const uint8_t command[6] = {0x12, evpd, page, 0x02, 0x3C, 0x00};
+        piongseut_inquiry_answer answer =
+            piongseut_inquiry(command, sizeof command, block, sizeof block, signature, sizeof signature, texts, sizeof texts, texts,
+                              0, ports, address, PIONGSEUT_ADDRESS_SIZE, PIONGSEUT_SENSE_DESCRIPTOR, room, sizeof room, sense,
+                              sizeof sense);
+        capture(tags[at], answer.count);
+    }
+}
+
+/* Whether the check of what is captured comes to this. */
+static int checked(uint8_t number, uint8_t accepted, uint8_t tag, size_t place)
+{
+    piongseut_check_answer answer = piongseut_check(captured, captured_size);
+    return answer.number == number && answer.accepted == accepted && answer.tag == tag && answer.place == place;
+}
+
+/* Where the fields of the capture begin that are changed here. */
+enum { PAGE83_AT = 11 + 39 + 27 + 3, PAGE89_AT = PAGE83_AT + 36 + 3, BROKEN = 21, PACKET_DRIVE = 22 };
+
+static void captures(void)
+{
+    capture_all();
+    check(checked(PIONGSEUT_ACCEPTED, 1, 0, 0), "the board's own replies in a capture");
+    captured[PAGE83_AT + 23] = 1;
+    check(checked(PIONGSEUT_ACCEPTED, 1, 0, 0), "the other port");
+    captured[PAGE83_AT + 23] = 3;
+    check(checked(PIONGSEUT_ACCEPTED, 0, 0x83, 23), "a port of 3: 83h differs at 23");
+    captured[PAGE89_AT + 3] = 0;
+    captured[3 + 3] = 5;
+    check(checked(PIONGSEUT_ACCEPTED, 0, 0x00, 3), "three fields that differ: the first is named");
+    captured[PAGE89_AT + 60 + 510] = 0xA5;
+    check(checked(DAMAGED, 0, 0, 0), "a damaged block, 18");
+    captured[PAGE89_AT + 36 + 5] = 0x14;
+    captured[PAGE89_AT + 36 + 6] = 0xEB;
+    check(checked(PACKET_DRIVE, 0, 0, 0) && PACKET_DRIVE == PIONGSEUT_REFUSED_PACKET, "a packet drive, 22 before 18");
+    captured[captured_size++] = 0x89;
+    check(checked(BROKEN, 0, 0, PAGE89_AT + PIONGSEUT_PAGE89_SIZE) && BROKEN == PIONGSEUT_REFUSED_CAPTURE,
+          "a byte behind the last field, 21 before 22");
+    captured_size -= 2;
+    check(checked(BROKEN, 0, 0, PAGE89_AT - 3), "89h that is cut, 21 at its tag");
+    captured_size = PAGE89_AT - 3;
+    check(checked(BROKEN, 0, 0, captured_size), "no 89h, 21 at the end");
+    captured_size = 0;
+    check(checked(BROKEN, 0, 0, 0), "nothing captured, 21");
+}
+
 int main(void)
 {
     version();
@@ -1066,6 +1135,7 @@ int main(void)
     built_lengths();
     refused_fields();
     refused_resets();
+    captures();
     printf("uses_all: %d passed, %d failed\n", passed, failed);
     return failed != 0;
 }
