@@ -1,7 +1,8 @@
 #!/usr/bin/env python3
 """captures.py DIR: writes captures into DIR, NAME.capture each: the pages that the board writes of the real drives in data/identify,
 made here from sections 5 to 7 of docs/RULES.md, and ways to spoil them. `captures.py --stored` writes the one that stands in
-crates/bridgecheck/stdin to standard output. Nothing of the board is used."""
+crates/bridgecheck/stdin to standard output; `captures.py --taken DIR` makes captures of the lines that `take` reads out of a machine.
+Nothing of the board is used."""
 import glob
 import os
 import sys
@@ -173,7 +174,25 @@ def captures():
     yield from longest(own(unnamed))
 
 
+def taken(folder):
+    """Lines of a device, a file and its bytes: a capture of each device, named by whose pages they are."""
+    files = {"vpd_pg0": "00", "inquiry": "standard", "vpd_pg80": "80", "vpd_pg83": "83", "vpd_pg89": "89"}
+    devices = {}
+    for line in sys.stdin:
+        device, file, digits = line.split()
+        devices.setdefault(device, {})[files[file]] = bytes.fromhex(digits)
+    for pages in devices.values():
+        name = "qemu" if "89" not in pages else "scsi_debug" if b"scsi_debug" in pages["89"] else "libata_named"
+        if name == "libata_named" and not identify.carries_name(pages["89"][60:]):
+            name = "libata_unnamed"
+        with open(os.path.join(folder, name + ".capture"), "wb") as file:
+            file.write(capture(pages))
+
+
 def main():
+    if sys.argv[1] == "--taken":
+        taken(sys.argv[2])
+        return
     if sys.argv[1] == "--stored":
         sys.stdout.buffer.write(stored())
         return

@@ -1,7 +1,8 @@
 #!/usr/bin/env python3
 """foreign.py DIR: writes captures of other makers' bridges into DIR, FORM.FIELDS.DRIVE.capture each, of the real drives' IDENTIFY
 blocks in data/identify. FIELDS is `all`, or the one page that stands beside 89h (`standard` is tag 01h), or `89` for that page alone.
-Nothing of the board is used.
+`foreign.py --like FOLDER` holds each form against what was taken of the makers' own code (`take`): of the block that is shown there it
+has to make the same bytes. Nothing of the board is used.
 
 The forms, each from published source:
 
@@ -77,7 +78,7 @@ class ScsiDebug:
     def standard(_block):
         head = bytes([0x00, 0x00, 0x07, 0x02, 96 - 5, 0x00, 0x10, 0x0A])
         text = b"Linux   scsi_debug      0191" + b"20210520"
-        versions = bytes.fromhex("00c005c006002077")
+        versions = bytes.fromhex("00c005c006002100")
         return (head + text).ljust(58, b"\0") + versions.ljust(96 - 58, b"\0")
 
     @staticmethod
@@ -156,7 +157,36 @@ def of_drive(form, block):
         yield "89", information
 
 
+def fields_of(content):
+    """The fields of a capture that is whole."""
+    names = {tag: name for name, tag in TAGS.items()}
+    found, at = {}, 0
+    while at < len(content):
+        end = at + 3 + int.from_bytes(content[at + 1:at + 3], "big")
+        found[names[content[at]]] = content[at + 3:end]
+        at = end
+    return found
+
+
+def like(folder):
+    """Says of each capture that was taken whether it is what is made here of the block; of QEMU's, which shows none, of libata's."""
+    taken = {}
+    for name in ("libata_named", "libata_unnamed", "scsi_debug", "qemu"):
+        with open(os.path.join(folder, name + ".capture"), "rb") as file:
+            taken[name] = file.read()
+    failed = 0
+    for name, content in taken.items():
+        shown = fields_of(taken["libata_named"] if name == "qemu" else content)["89"][60:]
+        form = "libata" if name.startswith("libata") else name
+        same = dict(of_drive(form, shown))["all"] == content
+        print("%s: %s" % (name, "the same bytes" if same else "other bytes are made here"))
+        failed += not same
+    return 1 if failed else 0
+
+
 def main():
+    if sys.argv[1] == "--like":
+        sys.exit(like(sys.argv[2]))
     for drive, block in drives():
         for form in FORMS:
             for fields, content in of_drive(form, block):
