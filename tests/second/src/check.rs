@@ -173,7 +173,7 @@ fn judged(fields: &[Field]) -> Checked {
         .iter()
         .map(|&field| (field, place_at_fault(field, &drive)));
     let first = if fault::planted("check-names-the-last-field") {
-        faults.filter(|(_, place)| place.is_some()).last()
+        faults.rfind(|(_, place)| place.is_some())
     } else {
         faults.find(|(_, place)| place.is_some())
     };

@@ -286,38 +286,41 @@ fn with_page83(block: &[u8], page: Vec<u8>) -> Vec<u8> {
     capture(&fields[3..])
 }
 
-/// Page 83h of every choice of ports with every length byte that some choice
-/// has: whole, cut and longer, each byte changed, and with the descriptors of
-/// another choice from some byte on.
+/// A page cut at every length, made longer, with each byte changed, and with
+/// the end of each of these pages from every byte on.
+fn spoilt(page: &[u8], others: &[Vec<u8>]) -> Vec<Vec<u8>> {
+    let mut all = Vec::new();
+    for size in 0..=page.len() + 3 {
+        all.push(page.to_vec());
+        all[size].resize(size, 0x61);
+    }
+    for at in 0..page.len() {
+        for by in [1, 2, 3, 7, 0x80] {
+            let mut changed = page.to_vec();
+            changed[at] ^= by;
+            all.push(changed);
+        }
+    }
+    for other in others {
+        let end = page.len();
+        all.extend((4..=other.len()).map(|at| [&page[..at.min(end)], &other[at..]].concat()));
+    }
+    all
+}
+
+/// Page 83h of every choice of ports with the length byte of every choice, and
+/// with others: whole and spoilt.
 pub fn ports(board: &mut Board) {
     for block in drives() {
         let pages = CHOICES.map(|ports| lent::page83_with(&block, ports, &ADDRESS));
+        let mut lengths = vec![0, 1, 8, 44, 68, 104, 255];
+        lengths.extend(pages.iter().map(|page| page[3]));
         for page in &pages {
-            for length in pages
-                .iter()
-                .map(|page| page[3])
-                .chain([0, 1, 8, 44, 68, 104, 255])
-            {
+            for &length in &lengths {
                 let mut told = page.clone();
                 told[3] = length;
-                for size in 0..=told.len() + 3 {
-                    let mut resized = told.clone();
-                    resized.resize(size, 0x61);
-                    board.call(&check(&with_page83(&block, resized)));
-                }
-                for at in 0..told.len() {
-                    for by in [1, 2, 3, 7, 0x80] {
-                        let mut changed = told.clone();
-                        changed[at] ^= by;
-                        board.call(&check(&with_page83(&block, changed)));
-                    }
-                }
-                for (other, at) in pages
-                    .iter()
-                    .flat_map(|page| (4..=page.len()).map(move |at| (page, at)))
-                {
-                    let mixed = [&told[..at.min(told.len())], &other[at..]].concat();
-                    board.call(&check(&with_page83(&block, mixed)));
+                for page in spoilt(&told, &pages) {
+                    board.call(&check(&with_page83(&block, page)));
                 }
             }
         }
@@ -327,11 +330,11 @@ pub fn ports(board: &mut Board) {
 /// Right and wrong descriptors, up to three behind the name in every order,
 /// under a length that counts them and under that of each choice.
 pub fn descriptors(board: &mut Board) {
-    let wrong_number = |number: [u8; 4]| [&[0x61, 0x94, 0x00, 0x04][..], &number].concat();
+    let number = |bytes: [u8; 4]| [&[0x61, 0x94, 0x00, 0x04][..], &bytes].concat();
     let address = |bytes: [u8; 8]| [&[0x61, 0x93, 0x00, 0x08][..], &bytes].concat();
-    let mut all = vec![wrong_number([0, 0, 0, 1]), wrong_number([0, 0, 0, 2])];
-    all.extend([wrong_number([0, 0, 0, 0]), wrong_number([0, 0, 0, 3])]);
-    all.extend([wrong_number([0, 0, 1, 1]), wrong_number([1, 0, 0, 1])]);
+    let mut all = vec![number([0, 0, 0, 1]), number([0, 0, 0, 2])];
+    all.extend([number([0, 0, 0, 0]), number([0, 0, 0, 3])]);
+    all.extend([number([0, 0, 1, 1]), number([1, 0, 0, 1])]);
     all.extend([address(ADDRESS), address([0; 8]), address([0xFF; 8])]);
     all.extend([
         vec![0x61, 0x93, 0x00, 0x08, 0x50],
@@ -353,9 +356,32 @@ pub fn descriptors(board: &mut Board) {
     }
 }
 
-/// Page 83h with names of another drive, and forms of names that others make:
-/// texts for a drive with a name, a name for one without, vendor-specific bytes
-/// before either, an "ata." string, and several names.
+/// What others put into page 83h: a name, texts, vendor-specific bytes before
+/// or behind them, several of these, an "ata." string, and nothing.
+fn foreign_names(block: &[u8]) -> Vec<Vec<u8>> {
+    let own = lent::page83(block)[4..].to_vec();
+    let mut name = vec![0x01, 0x03, 0x00, 0x08];
+    name.extend(second::identify::turned_name(block));
+    let mut texts = vec![0x02, 0x01, 0x00, 0x44];
+    texts.extend(b"ATA     ");
+    texts.extend(second::identify::turned_model(block));
+    texts.extend(second::identify::turned_serial(block));
+    let specific = [&[0x02, 0x00, 0x00, 0x14][..], &[0x41; 20]].concat();
+    let ata = [&[0x02, 0x01, 0x00, 0x08][..], b"ata.1234"].concat();
+    vec![
+        [&specific[..], &texts].concat(),
+        [&specific[..], &texts, &name].concat(),
+        [&name[..], &texts].concat(),
+        [&own[..], &specific].concat(),
+        name,
+        texts,
+        ata,
+        Vec::new(),
+    ]
+}
+
+/// The fields of one drive with those of another among them; and page 83h with
+/// the names that others make, of several types.
 pub fn foreign(board: &mut Board, real: &[Vec<u8>]) {
     let mut blocks = lent::blocks();
     blocks.extend(real.iter().cloned());
@@ -364,38 +390,15 @@ pub fn foreign(board: &mut Board, real: &[Vec<u8>]) {
         let other = &blocks[(at + 1) % blocks.len()];
         let (mut fields, others) = (plain(block, CHOICES[0]), plain(other, CHOICES[3]));
         for bits in 0..16 {
-            let mut mixed = fields.clone();
-            (0..4)
-                .filter(|at| bits >> at & 1 == 1)
-                .for_each(|at| mixed[at] = others[at].clone());
+            let pairs = fields.iter().zip(&others).enumerate();
+            let either =
+                pairs.map(|(at, (one, other))| if bits >> at & 1 == 1 { other } else { one });
+            let mixed: Vec<Field> = either.cloned().collect();
             ask(board, &mixed);
         }
-        let own = lent::page83(block)[4..].to_vec();
-        let name = [
-            &[0x01, 0x03, 0x00, 0x08][..],
-            &second::identify::turned_name(block),
-        ]
-        .concat();
-        let specific = [&[0x02, 0x00, 0x00, 0x14][..], &[0x41; 20]].concat();
-        let mut texts = vec![0x02, 0x01, 0x00, 0x44];
-        texts.extend(b"ATA     ");
-        texts.extend(second::identify::turned_model(block));
-        texts.extend(second::identify::turned_serial(block));
-        let ata = [&[0x02, 0x01, 0x00, 0x08][..], b"ata.1234"].concat();
-        let rows: [&[&[u8]]; 8] = [
-            &[&name],
-            &[&texts],
-            &[&specific, &texts],
-            &[&specific, &texts, &name],
-            &[&name, &texts],
-            &[&own, &specific],
-            &[&ata],
-            &[],
-        ];
-        for told in rows.map(|row| row.concat()) {
+        for told in foreign_names(block) {
             for kind in [0x00, 0x05, 0x20] {
-                let page = [&[kind, 0x83, 0x00, told.len() as u8][..], &told].concat();
-                fields[3].1 = page;
+                fields[3].1 = [&[kind, 0x83, 0x00, told.len() as u8][..], &told].concat();
                 ask(board, &fields);
                 ask(board, &some(&fields, 0b11000));
             }
