@@ -52,6 +52,8 @@ pub struct Board {
     reader: Option<JoinHandle<Vec<u64>>>,
     differs: Arc<AtomicBool>,
     stop_at_first: bool,
+    /// The classes that are compared have names that begin so.
+    only: String,
     pub classes: Vec<Class>,
     /// How often each function gave each number.
     pub counts: [[u64; NUMBERS]; NAMES.len()],
@@ -81,7 +83,7 @@ fn spawn(command: &[String]) -> io::Result<(Child, ChildStdin, ChildStdout)> {
 }
 
 impl Board {
-    pub fn start(command: &[String], stop_at_first: bool) -> io::Result<Board> {
+    pub fn start(command: &[String], stop_at_first: bool, only: &str) -> io::Result<Board> {
         let (child, input, output) = spawn(command)?;
         let (jobs, work) = sync_channel(4);
         let differs = Arc::new(AtomicBool::new(false));
@@ -100,6 +102,7 @@ impl Board {
             reader: Some(std::thread::spawn(move || comparison.run(work))),
             differs,
             stop_at_first,
+            only: only.to_string(),
             classes: Vec::new(),
             counts: [[0; NUMBERS]; NAMES.len()],
             applied: vec![HashSet::new(); NAMES.len()],
@@ -125,10 +128,14 @@ impl Board {
         self.stop_at_first && self.differs.load(Ordering::Relaxed)
     }
 
-    /// Makes a call of both programs.
+    /// Makes a call of both programs, or of the second alone where the class is
+    /// not compared.
     pub fn call(&mut self, call: &Call) -> Said {
         let at = self.classes.len() - 1;
         let stated = self.state(call);
+        if !self.classes[at].name.starts_with(&self.only) {
+            return call.answer(stated, &mut Vec::new());
+        }
         let batch = &mut self.batch;
         (batch.class, batch.name) = (at, self.classes[at].name);
         let start = (batch.requests.len(), batch.answers.len());

@@ -3,10 +3,11 @@
 //! `compare all [seed=N] [calls=N] data=DIR -- BOARD...` tries every class of
 //! inputs; `compare first [begin=WORD] data=DIR -- BOARD...` ends at the first
 //! difference and leaves out the random inputs; the classes whose names begin
-//! with WORD come first; `compare replay HEX -- BOARD...` shows
-//! both answers to one call, and reads the digits from standard input where
-//! HEX is `-`; `compare faults` names the faults that can be planted. Exit
-//! status 1 is a difference, 2 a test that could not be made.
+//! with WORD come first. With `only=WORD`, either tries no others. `compare
+//! replay HEX -- BOARD...` shows both answers to one call, and reads the digits
+//! from standard input where HEX is `-`; `compare faults` names the faults that
+//! can be planted. Exit status 1 is a difference, 2 a test that could not be
+//! made.
 
 #![forbid(unsafe_code)]
 
@@ -46,6 +47,7 @@ struct Asked {
     calls: u64,
     first: bool,
     begin: String,
+    only: String,
     real: Vec<Vec<u8>>,
     board: Vec<String>,
 }
@@ -85,6 +87,7 @@ fn asked(arguments: &[String], first: bool) -> io::Result<Asked> {
         calls: if first { 0 } else { CALLS },
         first,
         begin: String::new(),
+        only: String::new(),
         real: Vec::new(),
         board: behind_dashes(arguments)?,
     };
@@ -94,6 +97,7 @@ fn asked(arguments: &[String], first: bool) -> io::Result<Asked> {
             Some(("seed", text)) => asked.seed = number(text)?,
             Some(("calls", text)) => asked.calls = number(text)?,
             Some(("begin", word)) => asked.begin = word.to_string(),
+            Some(("only", word)) => asked.only = word.to_string(),
             Some(("data", folder)) => asked.real = real_blocks(folder)?,
             _ => return Err(trouble(format!("what is {argument}?"))),
         }
@@ -237,10 +241,13 @@ fn pages_written(board: &mut Board) {
 
 /// Tries everything, and prints what was covered. Back: no difference.
 fn run(asked: Asked) -> io::Result<bool> {
-    let mut board = Board::start(&asked.board, asked.first)?;
+    let mut board = Board::start(&asked.board, asked.first, &asked.only)?;
     println!("seed {}", asked.seed);
     let sooner = |class: &&(&str, Inputs)| class.0.starts_with(&asked.begin);
-    let (sooner, later): (Vec<_>, Vec<_>) = CLASSES.iter().partition(sooner);
+    let wanted = CLASSES
+        .iter()
+        .filter(|class| class.0.starts_with(&asked.only));
+    let (sooner, later): (Vec<_>, Vec<_>) = wanted.partition(sooner);
     for (name, inputs) in sooner.into_iter().chain(later) {
         if board.is_done() {
             break;
@@ -255,7 +262,31 @@ fn run(asked: Asked) -> io::Result<bool> {
     };
     let found = board.finish()?;
     let mut report = Report::default();
-    for (class, differences) in board.classes.iter().zip(&found) {
+    classes_tried(&board, &found, &asked.only, &mut report);
+    if !asked.first && asked.only.is_empty() {
+        own_answers(&agreed, &mut report);
+        coverage(&board, &mut report);
+    }
+    if !asked.first {
+        let calls: u64 = board.classes.iter().map(|class| class.calls).sum();
+        println!("calls: {calls}, differences: {}", found.iter().sum::<u64>());
+    }
+    println!(
+        "compare: {} passed, {} failed",
+        report.passed, report.failed
+    );
+    if report.passed + report.failed == 0 {
+        return Err(trouble(format!("no class begins with {}", asked.only)));
+    }
+    Ok(report.failed == 0)
+}
+
+/// That each class that was to be compared made calls, and none differs.
+fn classes_tried(board: &Board, found: &[u64], only: &str, report: &mut Report) {
+    for (class, differences) in board.classes.iter().zip(found) {
+        if !class.name.starts_with(only) {
+            continue;
+        }
         let given: Vec<String> = (0..NUMBERS)
             .filter(|&number| class.numbers & 1 << number != 0)
             .map(|number| number.to_string())
@@ -265,17 +296,6 @@ fn run(asked: Asked) -> io::Result<bool> {
         // A class that made no call has shown nothing.
         report.check(*differences == 0 && calls > 0, &text);
     }
-    if !asked.first {
-        own_answers(&agreed, &mut report);
-        coverage(&board, &mut report);
-        let calls: u64 = board.classes.iter().map(|class| class.calls).sum();
-        println!("calls: {calls}, differences: {}", found.iter().sum::<u64>());
-    }
-    println!(
-        "compare: {} passed, {} failed",
-        report.passed, report.failed
-    );
-    Ok(report.failed == 0)
 }
 
 /// What the second program's own answers show.
