@@ -90,6 +90,9 @@ def own_captures():
     for left_out in list(pages)[:4]:
         yield "own.without_" + left_out, capture({name: pages[name] for name in pages if name != left_out})
     yield "own.89_alone", capture({"89": pages["89"]})
+    yield "own.address_of_zeros", capture({**pages, "83": pages["83"][:-8] + bytes(8)})
+    for at, value in ((41, 0x14), (42, 0xEB)):
+        yield "own.packet_in_byte_%d_alone" % at, capture({**pages, "89": changed(pages["89"], at, value)})
 
 
 def differing(kind, pages):
