@@ -9,7 +9,8 @@ before it puts arguments down, in whole words of 8 bytes: arguments on the stack
 red zone, and the deepest function that is called. A function that the header asks of the host counts with its return address alone.
 
 What is believed of the compiler: it keeps nothing further down than the red zone's 128 bytes, and nothing there in a function that
-makes calls. Where a function without calls takes an address on its stack, or writes there by an index, the whole red zone counts.
+makes calls; and a jump out of a table goes where one of the table's entries leads. Where a function without calls takes an address on
+its stack, or writes there by an index, the whole red zone counts.
 """
 import collections
 import re
@@ -20,13 +21,17 @@ WORD = 8
 RED_ZONE = 128
 REGISTERS_OF_ARGUMENTS = 6
 
-Instruction = collections.namedtuple('Instruction', 'address name operands symbol')
+Instruction = collections.namedtuple('Instruction', 'address name operands symbol table')  # table: where a jump out of one leads
 Frame = collections.namedtuple('Frame', 'kept red calls stores')  # calls: (function, bytes above its return address)
 Bound = collections.namedtuple('Bound', 'bytes path')
 
 FUNCTION = re.compile(r'[0-9a-f]+ <(.+)>:$')
 INSTRUCTION = re.compile(r' +([0-9a-f]+):\t(?:(?:notrack|bnd|rep\w*|lock|data16|[c-gs]s) )*(\w+) *([^#]*)')
 RELOCATION = re.compile(r'\t+[0-9a-f]+: R_X86_64_\w+\t(?:\.text\.)?(.+)$')
+SECTION = re.compile(r'RELOCATION RECORDS FOR \[(.+)\]:$')
+ENTRY = re.compile(r'([0-9a-f]+) R_X86_64_PC32 +\.text\.(.+)\+0x([0-9a-f]+)$')
+TABLE = re.compile(r'(\.rodata\..+?)(?:\+0x([0-9a-f]+) and 4 bytes)?$')
+OUT_OF_TABLE = re.compile(r'lea 0x0\(%rip\),(%\w+); movslq \(\1,%\w+,4\),(%\w+); add \1,\2; jmp \*\2')
 ON_STACK = re.compile(r'(-?0x[0-9a-f]+)?\(%rsp(,%\w+,\d)?\)')
 STACK_POINTER = re.compile(r'%[re]?spl?\b')
 
@@ -35,18 +40,61 @@ class Unreadable(Exception):
     """Something of which no bound can be told."""
 
 
+def said(*words):
+    return subprocess.run(words, check=True, capture_output=True, text=True).stdout.splitlines()
+
+
+def entries(archive, tools):
+    """section -> place in it -> function and number, of every number in it that tells of a place in a function, from there on."""
+    found, section = {}, {}
+    for line in said(tools + 'objdump', '-r', archive):
+        head, one = SECTION.match(line), ENTRY.match(line)
+        if head:
+            section = found.setdefault(head.group(1), {})
+        elif one:
+            section[int(one.group(1), 16)] = (one.group(2), int(one.group(3), 16))
+    return found
+
+
+def table_of(one):
+    """Section and place of the table that an instruction refers to; None where it refers to no such place."""
+    place = TABLE.match(one.symbol or '')
+    return place and (place.group(1), int(place.group(2), 16) + 4 if place.group(2) else 0)
+
+
+def leads(name, body, at, tables):
+    """Where a jump out of a table goes on, which the three instructions before it prepare; nowhere where it is no such jump, or an entry
+    leads out of the function. A table ends where the next begins, or where there is no entry."""
+    told = '; '.join('%s %s' % (one.name, one.operands) for one in body[max(0, at - 3):at + 1])
+    if not OUT_OF_TABLE.fullmatch(told) or not table_of(body[at - 3]):
+        return ()
+    section, start = table_of(body[at - 3])
+    others = {table_of(one) for one in body} - {(section, start)}
+    found, place = [], start
+    while place in tables.get(section, {}) and (section, place) not in others:
+        found.append(tables[section][place])
+        place += 4
+    return tuple(number - 4 * i for i, (_, number) in enumerate(found)) if all(of == name for of, _ in found) else ()
+
+
 def functions(archive, tools):
     """name -> instructions, of every function in the archive; a symbol that an instruction refers to stands with it."""
-    words = (tools + 'objdump', '-dr', '--no-show-raw-insn', archive)
+    tables = entries(archive, tools)
+    bodies = listed(archive, tools)
+    return {name: [one._replace(table=leads(name, body, at, tables)) for at, one in enumerate(body)] for name, body in bodies.items()}
+
+
+def listed(archive, tools):
+    """The same without the tables."""
     found, body = {}, None
-    for line in subprocess.run(words, check=True, capture_output=True, text=True).stdout.splitlines():
+    for line in said(tools + 'objdump', '-dr', '--no-show-raw-insn', archive):
         head, one, refers = FUNCTION.match(line), INSTRUCTION.match(line), RELOCATION.match(line)
         if head:
             if head.group(1) in found:
                 raise Unreadable('two functions are called %s' % head.group(1))
             body = found[head.group(1)] = []
         elif one:
-            body.append(Instruction(int(one.group(1), 16), one.group(2), one.group(3).strip(), None))
+            body.append(Instruction(int(one.group(1), 16), one.group(2), one.group(3).strip(), None, ()))
         elif refers:
             # A call is relative to what follows it, 4 bytes on; any other addend is no function's start.
             start = re.fullmatch('(.+)-0x4', refers.group(1))
@@ -89,7 +137,7 @@ def reach(one, depth, makes_calls):
 def called(one):
     """The function that an instruction calls or jumps to; None where it does neither."""
     is_call = one.name.startswith('call')
-    if not is_call and not one.name.startswith(('j', 'loop')):
+    if one.table or not is_call and not one.name.startswith(('j', 'loop')):
         return None
     if '*' in one.operands:
         raise Unreadable('%s by a pointer, %s' % ('calls' if is_call else 'jumps', one.operands))
@@ -107,10 +155,9 @@ def ways(one, depth, inside):
         return []
     onward = [] if one.name.startswith('jmp') else [(None, moved(one, depth))]
     if one.name.startswith(('j', 'loop')) and not called(one):
-        to = int(one.operands.split(' ')[0], 16)
-        if to not in inside:
-            raise Unreadable('jumps out of itself at %x' % one.address)
-        onward.append((to, depth))
+        onward += [(to, depth) for to in one.table or [int(one.operands.split(' ')[0], 16)]]
+    if not all(to is None or to in inside for to, _ in onward):
+        raise Unreadable('jumps out of itself at %x' % one.address)
     return onward
 
 

@@ -28,3 +28,17 @@ in_two_places:
 1:      ret
 runs_on:
         nop
+
+        .section .text.jumps_out_by_table, "ax", @progbits
+jumps_out_by_table:
+        lea 1f(%rip), %rcx
+        movslq (%rcx,%rdi,4), %rax
+        add %rcx, %rax
+        jmp *%rax
+        .section .rodata.jumps_out_by_table, "a", @progbits
+1:      .long jumps_out_by_table - 1b
+        .long elsewhere - 1b
+
+        .section .text.elsewhere, "ax", @progbits
+elsewhere:
+        ret
