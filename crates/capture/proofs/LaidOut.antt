@@ -474,3 +474,15 @@ module _ {capture : List ℕ} {place : ℕ} (b : Bytewise capture) (w : BrokenAt
 
   pub broken-ends : end capture ≡ place
   broken-ends = ⊎-elim no-89h behind-89h (before-or-ending (w .rising))
+
+-- Fields that are put one before the other, or left out.
+lower-rising : {least more-least : ℕ} {fs : List Field} → least ≤ more-least → Rising more-least fs → Rising least fs
+lower-rising h no-more = no-more
+lower-rising h (more g r s) = more (le-trans h g) r s
+
+pub put-first : {least : ℕ} {fs : List Field} (present : Bool) (f : Field) → least ≤ f .tag → (present ≡ true → Right f) → Rising (suc (f .tag)) fs → Rising least (cond present (f ∷ []) [] ++ fs)
+put-first true f h r s = more h (r refl) s
+put-first {least} false f h r s = let up : least ≤ suc (f .tag) = omega arith in lower-rising up s
+
+pub put-last : {least : ℕ} (f : Field) → least ≤ f .tag → Right f → Rising least (f ∷ [])
+put-last f h r = more h r no-more

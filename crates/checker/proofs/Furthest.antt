@@ -9,15 +9,16 @@ use lib.Dec.{eqb}
 use lib.ListN.{length, getD, drop, replicate}
 use lib.Seq.{getD-drop, drop-drop}
 use borrow.Author.Tests.{eq-eqb, ne-eqb, eqb-true, not-false}
+use Rattle.identify.specs.Drive.{carriesName}
 use Rattle.page83.specs.declared.Ports.{Ports}
 use Rattle.page83.specs.Ports.{relativeChosen, sasChosen, relativePort, sasPort, relativePart, sasPart, portsPart, wrongAddress, wrongPort}
 use Rattle.page83.specs.Page83.{driveDescriptor, page83}
 use Rattle.page83.specs.Helpers.{portsSize}
-use Rattle.page83.proofs.Laws.{right-address, named-or-not}
+use Rattle.page83.proofs.Laws.{right-address, named-or-not, page-size}
 use Rattle.agreement.specs.Agreed.{agreed}
-use Rattle.agreement.proofs.Laws.{agrees, further, agreed-front}
+use Rattle.agreement.proofs.Laws.{agrees, agreed-self, agreed-whole, further, agreed-front}
 use Rattle.checker.specs.Ports.{chosenBy, portBy, portsIn, addressIn, claimedPorts, claimedAddress, claimedPage}
-use Rattle.checker.proofs.Laws.{length-address, right-length}
+use Rattle.checker.proofs.Laws.{length-address, right-length, drive-ends}
 
 -- A run agrees further with a piece that has its own byte first, if behind that byte it does; with any other, not at all.
 by-first : (b : ℕ) (s : List ℕ) (n m : ℕ) (x y : List ℕ) → (b ≡ n → (n ≡ m) × (agreed s x ≤ agreed s y)) → agreed (b ∷ s) (n ∷ x) ≤ agreed (b ∷ s) (m ∷ y)
@@ -94,6 +95,12 @@ right-port ports e chosen = by (eqb (ports .relative) 1) refl (eqb (ports .relat
     by false p true q t = let two = eqb-true (ports .relative) 2 q in (omega (arith, two), rw two)
     by false p false q t = absurd (false≢true t)
 
+-- The address that a page tells is of the right size.
+pub claimed-address : (block page : List ℕ) → wrongAddress (claimedPorts block page) (claimedAddress block page) ≡ false
+unfolding claimedAddress
+claimed-address block page =
+    right-length (claimedPorts block page) (claimedAddress block page) (length-address (4 + length (driveDescriptor block) + length (relativePart (claimedPorts block page))) page)
+
 -- No page of the block with other ports, or with another address, agrees further than the one with the ports that the page tells.
 module _ (block page : List ℕ) (h : length block ≡ 512) (ports : Ports) (address : List ℕ) (g : wrongAddress ports address ≡ false) (w : wrongPort ports ≡ false) where
   pub furthest : agreed page (page83 block ports address) ≤ agreed page (claimedPage block page)
@@ -117,3 +124,23 @@ module _ (block page : List ℕ) (h : length block ≡ 512) (ports : Ports) (add
           let same = same-choice (length drive) (getD page 3 0) number ports e in
           rw (size, same .0, same .1)
           (refl, further drive (drop 4 page) (portsPart ports address) _ (rw (drop-drop (length drive) 4 page) (ports-further page at (ports .relative) number address (relativeChosen ports) (sasChosen ports) (right-port ports w) refl (right-address ports address g))))
+
+-- A page of the block with some choice of ports is the one with the ports that it tells: it agrees with that to its end, and so tells
+-- the same size.
+module _ (block : List ℕ) (h : length block ≡ 512) (ports : Ports) (address : List ℕ) (g : wrongAddress ports address ≡ false) (w : wrongPort ports ≡ false) where
+  pub own-page-claimed : claimedPage block (page83 block ports address) ≡ page83 block ports address
+  unfolding claimedPage
+  own-page-claimed =
+      let page = page83 block ports address in
+      let told = claimedPorts block page in
+      let other = claimedAddress block page in
+      let right = claimed-address block page in
+      let a = agrees page (page83 block told other) in
+      let n = page-size block ports address h g in
+      let whole : agreed page (page83 block told other) ≡ length page = omega (arith, furthest block page h ports address g w, agreed-self page, a .within-first) in
+      let size : length (driveDescriptor block) + portsSize ports ≡ length (driveDescriptor block) + portsSize told =
+      sym (ap (λ (l : List ℕ). getD l 3 0) (named-or-not block ports address h g))
+      ∙ a .before 3 (omega (arith, whole, n, drive-ends (carriesName block) .0))
+      ∙ ap (λ (l : List ℕ). getD l 3 0) (named-or-not block told other h right) in
+      let same : length page ≡ length (page83 block told other) = omega (arith, n, page-size block told other h right, size) in
+      sym (agreed-whole page (page83 block told other) (whole ∙ same) same)

@@ -36,6 +36,16 @@ two-runs information (f ∷ fs) gs = by (equal (f .bytes) (expected information 
     by true r = r
     by false r = refl
 
+-- Fields that are judged are not refused.
+pub judged-zero : (information : List ℕ) (fs : List Field) → judged information fs .number ≡ 0
+unfolding judged
+judged-zero information [] = refl
+judged-zero information (f ∷ fs) = by (equal (f .bytes) (expected information f)) (judged-zero information fs)
+  where
+    by : (b : Bool) → judged information fs .number ≡ 0 → cond b (judged information fs) (differs (f .tag) (agreed (f .bytes) (expected information f))) .number ≡ 0
+    by true z = z
+    by false z = refl
+
 -- A loop over the tags that holds each field beside what it is to be, before its turn k.
 pub record Judging (information capture : List ℕ) (at k : ℕ) : Type 0 where
   pub upto : at ≤ length capture

@@ -2,3 +2,4 @@
 pub mod Laws
 pub mod Judging
 pub mod Furthest
+pub mod Judged

@@ -1,5 +1,5 @@
 -- The check of a capture: whether each of its fields is what our writers give (RULES 15).
-use mathlib.Core.Bool.{Bool, false, cond, not}
+use mathlib.Core.Bool.{false, cond, not}
 use mathlib.Core.List.{List, [], _∷_}
 use Prim.Native.Nat.{ℕ}
 use lib.Dec.{eqb}
@@ -7,12 +7,14 @@ use lib.ListN.{take, drop}
 use Rattle.rules.specs.First.{Check, _when_, first}
 use Rattle.checksum.specs.Checksum.{damaged}
 use Rattle.identify.specs.Drive.{equal}
+use Rattle.page83.specs.declared.Ports.{Ports}
+use Rattle.page83.specs.Page83.{page83}
 use Rattle.pages.specs.Page.{standard, page00, page80, page89}
 use Rattle.packet.specs.Packet.{packetDrive}
 use Rattle.capture.specs.Capture.{Field, information, fieldsOf, holds, end}
 use Rattle.agreement.specs.Agreed.{agreed}
 use Rattle.checker.specs.declared.Checked.{Checked}
-use Rattle.checker.specs.Ports.{claimedPage}
+use Rattle.checker.specs.Ports.{claimedPorts, claimedAddress}
 
 -- What page 89h tells: the translator's texts, the signature and the block.
 abbrev pub textsOf : List ℕ → List ℕ
@@ -24,14 +26,19 @@ signatureOf page = take 20 (drop 36 page)
 abbrev pub blockOf : List ℕ → List ℕ
 blockOf page = drop 60 page
 
--- What our writers give for a field, of what page 89h tells; of page 83h, with the ports that the field tells.
+-- What our writers give for a tag, of what page 89h tells; for page 83h, with these ports.
+unfoldable pub ours : List ℕ → Ports → List ℕ → ℕ → List ℕ
+ours page89h ports address tag =
+    cond (eqb tag 0x00) page00
+    (cond (eqb tag 0x01) (standard (blockOf page89h))
+    (cond (eqb tag 0x80) (page80 (blockOf page89h))
+    (cond (eqb tag 0x83) (page83 (blockOf page89h) ports address)
+    (page89 false (textsOf page89h) (signatureOf page89h) (blockOf page89h)))))
+
+-- What a field is held beside: that, with the ports that the field itself tells.
 unfoldable pub expected : List ℕ → Field → List ℕ
 expected page89h f =
-    cond (eqb (f .tag) 0x00) page00
-    (cond (eqb (f .tag) 0x01) (standard (blockOf page89h))
-    (cond (eqb (f .tag) 0x80) (page80 (blockOf page89h))
-    (cond (eqb (f .tag) 0x83) (claimedPage (blockOf page89h) (f .bytes))
-    (page89 false (textsOf page89h) (signatureOf page89h) (blockOf page89h)))))
+    ours page89h (claimedPorts (blockOf page89h) (f .bytes)) (claimedAddress (blockOf page89h) (f .bytes)) (f .tag)
 
 -- What comes back: accepted, the first field at fault with its first differing byte, or a refusal.
 abbrev pub accepted : Checked

@@ -1,4 +1,5 @@
 -- The check of another maker's bridge.
 pub mod Ports
 pub mod Check
+pub mod Judged
 pub mod Helpers

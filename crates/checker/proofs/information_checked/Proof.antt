@@ -3,7 +3,7 @@ use mathlib.Core.Path.{sym, _∙_, ap}
 use mathlib.Core.List.{[]}
 use Rattle.capture.specs.Capture.{field}
 use Rattle.checker.specs.declared.Held.{Held}
-use Rattle.checker.specs.Check.{expected, judged}
+use Rattle.checker.specs.Check.{ours, expected, judged}
 use Rattle.checker.specs.Helpers.{beside}
 use Rattle.checker.proofs.Judging.{passed, fault}
 use borrow.Author.Needs.{needs}
@@ -17,7 +17,7 @@ accepted-requires : tie.Need-accepted-requires
 accepted-requires c κs = search needs
 
 returns : tie.Need-returns
-unfolding expected judged beside
+unfolding expected ours judged beside
 returns c =
     let page = c .before .before .before .before .args .information .now in
     c .accepted .ensures ∙ sym (passed page (field 0x89 page) [] (ap (λ (h : Held). h .same) (sym (c .before .before .information .ensures)) ∙ c .before .if1 .taken))
@@ -26,7 +26,7 @@ differs-requires : tie.Need-differs-requires
 differs-requires c κs = search needs
 
 returns-2 : tie.Need-returns-2
-unfolding expected judged beside
+unfolding expected ours judged beside
 returns-2 c =
     let page = c .before .before .before .before .args .information .now in
     let held = c .before .before .information .ensures in

@@ -1,7 +1,8 @@
 -- `other`: tag by tag.
-use mathlib.Core.Path.{_≡_, sym, _∙_}
+use mathlib.Core.Path.{_≡_}
 use native.Mathlib.Omega.{arith}
-use Rattle.checker.specs.Check.{expected}
+use Rattle.checker.specs.Ports.{claimedPage}
+use Rattle.checker.specs.Check.{ours, expected}
 use borrow.Author.Needs.{needs}
 use Rattle.checker.proofs.other.Statement.{statement}
 use Rattle.checker.proofs.other.Tie as tie
@@ -10,7 +11,7 @@ supported-requires : tie.Need-supported-requires
 supported-requires c κs = search needs
 
 returns : tie.Need-returns
-unfolding expected
+unfolding expected ours
 returns c =
     rw (c .before .if1 .taken) (c .supported .ensures)
 
@@ -21,7 +22,7 @@ standard-requires : tie.Need-standard-requires
 standard-requires c κs = search needs
 
 returns-2 : tie.Need-returns-2
-unfolding expected
+unfolding expected ours
 returns-2 c =
     rw (c .before .before .if2 .taken, ← c .before .block .ensures .0) (c .standard .ensures)
 
@@ -32,7 +33,7 @@ serial-requires : tie.Need-serial-requires
 serial-requires c κs = search needs
 
 returns-3 : tie.Need-returns-3
-unfolding expected
+unfolding expected ours
 returns-3 c =
     rw (c .before .before .if3 .taken, ← c .before .block2 .ensures .0) (c .serial .ensures)
 
@@ -43,7 +44,7 @@ names-requires : tie.Need-names-requires
 names-requires c κs = search needs
 
 returns-4 : tie.Need-returns-4
-unfolding expected
+unfolding expected ours claimedPage
 returns-4 c =
     let a = c .before .before .before .before .before .before .before in
     let t = c .before .before in
