@@ -26,6 +26,7 @@ use Rattle.intake.specs.Stream.{begin, runs, stream}
 use Rattle.intake.proofs.Stream.{whole-block, sum-of-the-block, no-block-yet}
 use Rattle.received.specs.Received as Received
 use Rattle.received.specs.Received.{inquiryOf, gatherOf, rollOf, gathered}
+use Rattle.checker.proofs.Judging.{damaged-block}
 use Rattle.tally.specs.Census.{refusalOf, feed}
 use Rattle.passthrough_order.specs.Order.{noOrder}
 use Rattle.passthrough_checks.specs.Checks as PassChecks
@@ -67,6 +68,7 @@ damaged-is-refused =
       of-inquiry-from-intake = λ have store command signature texts reply ports address form room sense right s d. rw right (of-inquiry (request command (blockOf have store) signature texts reply ports address) form room sense s d);
       of-roll-of-intakes = λ haves stores room rows right s w. rw (right, roll-refusal (gathered haves stores) (length rows) s w);
       of-feed = λ c block fit d. rw (eq-eqb _ _ (damaged-size block d), fit, d);
+      of-check = damaged-block;
     }
 
 -- A sum that is kept modulo 256 decides as the whole sum does.

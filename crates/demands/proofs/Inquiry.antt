@@ -39,7 +39,7 @@ module _ (q : Request) (form : ℕ) (room sense : List ℕ) where
   abbrev accepted : Bool → Outcome
   accepted through = cond through (passed q room sense) (served q room sense)
 
-  zero : inquiry q form room sense .answer .number ≡ 0 → refusal ≡ 0
+  pub zero : inquiry q form room sense .answer .number ≡ 0 → refusal ≡ 0
   unfolding inquiry
   zero e = not-refused (λ (o : Outcome). o .answer .number) (λ n. refused form n room sense) (accepted (passesThrough (isPacket q) (q .command))) refusal refl e
 
@@ -50,7 +50,7 @@ module _ (q : Request) (form : ℕ) (room sense : List ℕ) where
   unfolding inquiry
   inquiry-is z = rw (eq-eqb refusal 0 z)
 
-  shows : refusal ≡ 0 → shown q (inquiry q form room sense) ≡ take (allocation (q .command)) (cond (passesThrough (isPacket q) (q .command)) (q .reply) (page q))
+  pub shows : refusal ≡ 0 → shown q (inquiry q form room sense) ≡ take (allocation (q .command)) (cond (passesThrough (isPacket q) (q .command)) (q .reply) (page q))
   shows z = ap (shown q) (inquiry-is z) ∙ by (passesThrough (isPacket q) (q .command))
     where
       by : (t : Bool) → shown q (accepted t) ≡ take (allocation (q .command)) (cond t (q .reply) (page q))

@@ -15,6 +15,7 @@ use Rattle.demands.proofs.Damaged.{damaged-is-refused, carried-sum}
 use Rattle.demands.proofs.Stream.{stream-of-runs, inquiry-from-a-stream, roll-of-streams}
 use Rattle.demands.proofs.Census.{census-of-blocks, others-left-out}
 use Rattle.demands.proofs.Built.{built-reads-back, built-exactly-when, same-order-same-fields}
+use Rattle.demands.proofs.Bridge.{check-of-captures, own-replies-accepted}
 
 settled : {O : Type 0} (outcome : O) → Settled outcome
 settled outcome a b p q = p ∙ sym q
@@ -36,6 +37,7 @@ one-outcome =
       of-roll-of-intakes = λ haves stores room rows. settled _;
       of-feed = λ c block. settled _;
       of-build = λ o. settled _;
+      of-check = λ capture. settled _;
     }
 
 pub kept : Promises
@@ -76,4 +78,6 @@ kept =
       built-reads-back = built-reads-back;
       built-exactly-when = built-exactly-when;
       same-order-same-fields = same-order-same-fields;
+      check-of-captures = check-of-captures;
+      own-replies-accepted = own-replies-accepted;
     }

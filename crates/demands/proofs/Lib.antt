@@ -15,4 +15,5 @@ pub mod Forms
 pub mod Counts
 pub mod ReadBack
 pub mod Built
+pub mod Bridge
 pub mod Kept

@@ -32,6 +32,11 @@ use Rattle.intake.specs.Intake as Intake
 use Rattle.intake.specs.Intake.{taken, wrongIntake, blockOf, usedBy}
 use Rattle.received.specs.Received as Received
 use Rattle.received.specs.Received.{inquiryOf, gatherOf, rollOf, gathered}
+use Rattle.capture.specs.Capture.{fieldsOf, information, holds, end}
+use Rattle.checker.specs.declared.Checked.{Checked}
+use Rattle.checker.specs.Check as Check
+use Rattle.checker.specs.Check.{judged, check}
+use Rattle.checker.proofs.Judging.{judged-zero}
 use Rattle.tally.specs.declared.Census.{Census}
 use Rattle.tally.specs.declared.Fed.{Fed}
 use Rattle.tally.specs.Census as Census
@@ -193,6 +198,17 @@ of-build o h = by (buildable o) (eqb (o .extend) 0) h
     by true false h = absurd (h refl)
     by false x h = refl
 
+of-check : (capture : List ℕ) → Refused (check capture .number) → check capture ≡ Check.refused (check capture .number) (check capture .place)
+unfolding check
+of-check capture h = by (eqb (Check.refusalOf capture) 0) h
+  where
+    either : Bool → Checked
+    either t = cond t (judged (information capture) (fieldsOf capture)) (Check.refused (Check.refusalOf capture) (cond (holds capture) 0 (end capture)))
+
+    by : (t : Bool) → Refused (either t .number) → either t ≡ Check.refused (either t .number) (either t .place)
+    by true h = absurd (h (judged-zero (information capture) (fieldsOf capture)))
+    by false h = refl
+
 pub refusals-change-nothing : RefusalsChangeNothing
 refusals-change-nothing =
     record {
@@ -208,4 +224,5 @@ refusals-change-nothing =
       of-roll-of-intakes = of-roll-of-intakes;
       of-feed = of-feed;
       of-build = of-build;
+      of-check = of-check;
     }

@@ -1,10 +1,11 @@
--- The promises: what the rules say of the three demands, of the intake and of the census, each a statement with a name, in the demands' order.
+-- The promises: what the rules say of the three demands, of the intake, of the census and of another maker's bridge, each a statement
+-- with a name, in the demands' order.
 -- Nothing is proved on this page; proofs/Kept has a proof of each. An entry's contract equates all that the entry does with the rule
 -- that is named here, so that each promise is one about the entry.
 use mathlib.Core.Path.{_≡_}
 use mathlib.Core.Bool.{Bool, true, false, cond, not}
 use mathlib.Core.Logic.{_⊎_, _↔_}
-use mathlib.Core.List.{List, _++_}
+use mathlib.Core.List.{List, [], _∷_, _++_}
 use Prim.Native.Nat.{ℕ, suc, _+_, _*_, _-_, _/_, _%_, _≤_, _<_}
 use lib.Dec.{eqb, leb}
 use lib.ListN.{length, getD, take, drop, set, replicate}
@@ -29,6 +30,7 @@ use Rattle.page83_reader.specs.Reader.{inSixty, read}
 use Rattle.inquiry_fields.specs.Fields.{evpd, cmddt, pageCode, allocation, naca}
 use Rattle.inquiry_checks.specs.Request.{Request, request, isPacket}
 use Rattle.inquiry_checks.specs.Checks.{wrongSize}
+use Rattle.inquiry_checks.specs.Asked.{page}
 use Rattle.inquiry.specs.Inquiry as Inquiry
 use Rattle.inquiry.specs.Inquiry.{inquiry, part}
 use Rattle.passthrough_fields.specs.Fields.{long, longest, size, protocol, tDir, ckCond, extend}
@@ -53,6 +55,12 @@ use Rattle.intake.specs.Stream.{begin, step, runs, stream}
 use Rattle.received.specs.Received as Received
 use Rattle.received.specs.Received.{inquiryOf, gathered, wrongRun, gatherOf, rollOf}
 use Rattle.received.specs.Stream.{Bay, Stores, havesOf, storesOf, blockIn, blocksOf}
+use Rattle.packet.specs.Packet.{packetDrive}
+use Rattle.capture.specs.Capture.{Field, field, captured, information, holds}
+use Rattle.capture.specs.Layout.{BrokenAt}
+use Rattle.checker.specs.Check as Check
+use Rattle.checker.specs.Check.{signatureOf, check}
+use Rattle.checker.specs.Judged.{Acceptable, AtFault, OfAPacketDrive, OfADamagedBlock}
 use Rattle.classes.specs.Classes.{ultraDma, noMode, majorVersion, noVersion}
 use Rattle.tally.specs.declared.Census.{Census}
 use Rattle.tally.specs.Census as Census
@@ -88,6 +96,7 @@ pub record OneOutcome : Type 0 where
   pub of-roll-of-intakes : (haves stores room rows : List ℕ) → Settled (rollOf haves stores room rows)
   pub of-feed : (c : Census) (block : List ℕ) → Settled (feed c block)
   pub of-build : (o : Order) → Settled (build o)
+  pub of-check : (capture : List ℕ) → Settled (check capture)
 
 -- ## Demand 1
 
@@ -106,6 +115,7 @@ pub record RefusalsChangeNothing : Type 0 where
   pub of-roll-of-intakes : (haves stores room rows : List ℕ) → Refused (rollOf haves stores room rows .counted .number) → rollOf haves stores room rows ≡ Received.outcome (record { number = rollOf haves stores room rows .counted .number; blocks = 0; drives = 0 }) room rows
   pub of-feed : (c : Census) (block : List ℕ) → Refused (feed c block .number) → feed c block ≡ Census.answer c (feed c block .number)
   pub of-build : (o : Order) → Refused (build o .number) → build o ≡ built 23 0 (replicate 16 0)
+  pub of-check : (capture : List ℕ) → Refused (check capture .number) → check capture ≡ Check.refused (check capture .number) (check capture .place)
 
 -- A block that passes: it is not damaged.
 abbrev pub Passes : List ℕ → Type 0
@@ -131,6 +141,7 @@ pub record DamagedIsRefused : Type 0 where
   pub of-inquiry-from-intake : (have : ℕ) (store command signature texts reply : List ℕ) (ports : Ports) (address : List ℕ) (form : ℕ) (room sense : List ℕ) → wrongIntake have (length store) ≡ false → wrongSize (blockOf have store) signature texts ports address (length sense) ≡ false → damaged (blockOf have store) ≡ true → inquiryOf have store command signature texts reply ports address form room sense ≡ Inquiry.outcome (record { number = 18; status = noStatus; shown = 1; count = 0 }) room sense
   pub of-roll-of-intakes : (haves stores room rows : List ℕ) → wrongRun haves (length stores) ≡ false → RollSized (gathered haves stores) (length rows) → SomeDamaged (gathered haves stores) → rollOf haves stores room rows ≡ Received.outcome (record { number = 18; blocks = 0; drives = 0 }) room rows
   pub of-feed : (c : Census) (block : List ℕ) → closed c ≡ false → damaged block ≡ true → feed c block ≡ Census.answer c 18
+  pub of-check : (capture : List ℕ) → holds capture ≡ true → packetDrive (signatureOf (information capture)) ≡ false → damaged (Check.blockOf (information capture)) ≡ true → check capture ≡ Check.refused 18 0
 
 -- No reply passes the allocation length.
 abbrev pub WithinAllocation : Type 0
@@ -522,6 +533,56 @@ pub record BuiltExactlyWhen : Type 0 where
 abbrev pub SameOrderSameFields : Type 0
 SameOrderSameFields = (s t : Submission) → Makes s → Makes t → (orderFrom s ≡ orderFrom t) ↔ ((countsOf (s .command) ≡ countsOf (t .command)) × (pointsAt (s .command) (s .declared) ≡ pointsAt (t .command) (t .declared)))
 
+-- ## Another maker's bridge
+
+-- What the check says of a capture:
+pub record Checked (capture : List ℕ) : Type 0 where
+  -- it accepts exactly if the layout holds, the drive is no packet drive, the block passes, and every field is the writer's;
+  pub accepts : (check capture ≡ Check.accepted) ↔ Acceptable capture
+  -- it names a field and a place exactly if the first three hold, that field is the first that is not the writer's, and the place is its
+  -- first differing byte, for page 83h the furthest over all choices of ports and every address;
+  pub names-the-fault : (tag place : ℕ) → (check capture ≡ Check.differs tag place) ↔ AtFault capture tag place
+  -- it refuses with 21 and a place exactly if the layout is broken there, with 22 exactly if else the drive is a packet drive, and with 18
+  -- exactly if else the block is damaged;
+  pub broken-layout : (place : ℕ) → (check capture ≡ Check.refused 21 place) ↔ BrokenAt capture place
+  pub packet-drive : (check capture ≡ Check.refused 22 0) ↔ OfAPacketDrive capture
+  pub damaged-block : (check capture ≡ Check.refused 18 0) ↔ OfADamagedBlock capture
+  -- and it says nothing else.
+  pub one-of-these : (check capture ≡ Check.accepted) ⊎ ((tag : ℕ) × (place : ℕ) × (check capture ≡ Check.differs tag place)) ⊎ ((place : ℕ) × (check capture ≡ Check.refused 21 place)) ⊎ (check capture ≡ Check.refused 22 0) ⊎ (check capture ≡ Check.refused 18 0)
+
+-- So it is of every capture of bytes.
+abbrev pub CheckOfCaptures : Type 0
+CheckOfCaptures = (capture : List ℕ) → Bytes capture → Checked capture
+
+-- What INQUIRY shows of a drive for a tag, whole: standard data for 01h, else the page of that code.
+pub record Reply (block signature texts : List ℕ) (tag : ℕ) (bytes : List ℕ) : Type 0 where
+  pub asked : Request
+  pub form : ℕ
+  pub room : List ℕ
+  pub sense : List ℕ
+  pub of-the-drive : (asked .block ≡ block) × (asked .signature ≡ signature) × (asked .texts ≡ texts)
+  pub its-tag : cond (evpd (asked .command)) (pageCode (asked .command)) 0x01 ≡ tag
+  pub answered : inquiry asked form room sense .answer .number ≡ 0
+  pub whole : length (page asked) ≤ allocation (asked .command)
+  pub shows : shown asked (inquiry asked form room sense) ≡ bytes
+
+-- Such replies in a capture: page 89h, and before it those of the others that are present.
+abbrev pub put : (ℕ → Bool) → (ℕ → List ℕ) → ℕ → List Field
+put present replies tag = cond (present tag) (field tag (replies tag) ∷ []) []
+
+abbrev pub ownCapture : (ℕ → Bool) → (ℕ → List ℕ) → List ℕ
+ownCapture present replies =
+    captured
+    (put present replies 0x00
+    ++ put present replies 0x01
+    ++ put present replies 0x80
+    ++ put present replies 0x83
+    ++ (field 0x89 (replies 0x89) ∷ []))
+
+-- The board's own replies are accepted: of every block that passes (for INQUIRY refuses others), each asked with ports of its own.
+abbrev pub OwnRepliesAccepted : Type 0
+OwnRepliesAccepted = (block signature texts : List ℕ) (present : ℕ → Bool) (replies : ℕ → List ℕ) → length block ≡ 512 → packetDrive signature ≡ false → ((tag : ℕ) → (present tag ≡ true) ⊎ (tag ≡ 0x89) → Reply block signature texts tag (replies tag)) → check (ownCapture present replies) ≡ Check.accepted
+
 -- ## All of them
 
 pub record Promises : Type 0 where
@@ -560,3 +621,5 @@ pub record Promises : Type 0 where
   pub built-reads-back : BuiltReadsBack
   pub built-exactly-when : BuiltExactlyWhen
   pub same-order-same-fields : SameOrderSameFields
+  pub check-of-captures : CheckOfCaptures
+  pub own-replies-accepted : OwnRepliesAccepted
