@@ -19,7 +19,7 @@ part-requires c κs = search needs
 returns : tie.Need-returns
 returns c =
     let n : 3 + c .before .told .result - 3 ≡ told (c .before .before .before .args .rest .now) = omega arith in
-    rw n at (c .part .ensures)
+    rw (← n) (c .part .ensures)
 
 pub content-spec : {M : Type 1} → statement M
 content-spec = tie.close (tie.spec told-requires add-part part-requires returns)

@@ -4,10 +4,10 @@ use Rattle.checker.proofs.named.port_by.Statement.{statement}
 use Rattle.checker.proofs.named.port_by.Tie as tie
 
 returns : tie.Need-returns
-returns c = rw (eq-eqb _ _ (c .if1 .taken))
+returns c = rw (eq-eqb _ 2 (c .if1 .taken))
 
 returns-2 : tie.Need-returns-2
-returns-2 c = rw (ne-eqb _ _ (c .if1 .left))
+returns-2 c = rw (ne-eqb _ 2 (c .if1 .left))
 
 pub port-by-spec : {M : Type 1} → statement M
 port-by-spec = tie.close (tie.spec returns returns-2)
