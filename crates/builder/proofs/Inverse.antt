@@ -8,7 +8,7 @@ use lib.Dec.{eqb}
 use lib.ListN.{length, getD}
 use borrow.Author.Tests.{eqb-true}
 use Rattle.rules.specs.Bits.{bit, flag}
-use Rattle.sense.proofs.Table.{all-below, at}
+use Rattle.rules.proofs.Below.{all-below, at}
 use Rattle.passthrough_fields.specs.Length.{bytesIn}
 use Rattle.passthrough_order.specs.Order.{quietSeconds}
 use Rattle.builder.specs.Fields.{place, quietTimes, offLineFor, sectorCounts, multipleCountFor, lengthBits}

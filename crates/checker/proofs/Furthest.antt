@@ -10,11 +10,12 @@ use lib.ListN.{length, getD, drop, replicate}
 use lib.Seq.{getD-drop, drop-drop}
 use borrow.Author.Tests.{eq-eqb, ne-eqb, eqb-true, not-false}
 use Rattle.identify.specs.Drive.{carriesName}
-use Rattle.page83.specs.declared.Ports.{Ports}
-use Rattle.page83.specs.Ports.{relativeChosen, sasChosen, relativePort, sasPort, relativePart, sasPart, portsPart, wrongAddress, wrongPort}
+use Rattle.port.specs.declared.Ports.{Ports}
+use Rattle.port.specs.Ports.{relativeChosen, sasChosen, relativePort, sasPort, relativePart, sasPart, portsPart, wrongAddress, wrongPort}
 use Rattle.page83.specs.Page83.{driveDescriptor, page83}
-use Rattle.page83.specs.Helpers.{portsSize}
-use Rattle.page83.proofs.Laws.{right-address, named-or-not, page-size}
+use Rattle.port.specs.Helpers.{portsSize}
+use Rattle.port.proofs.Laws.{right-address}
+use Rattle.page83.proofs.Laws.{named-or-not, page-size}
 use Rattle.agreement.specs.Agreed.{agreed}
 use Rattle.agreement.proofs.Laws.{agrees, agreed-self, agreed-whole, further, agreed-front}
 use Rattle.checker.specs.Ports.{chosenBy, portBy, portsIn, addressIn, claimedPorts, claimedAddress, claimedPage}

@@ -11,8 +11,8 @@ use lib.ListN.{length, getD, length-drop}
 use Rattle.checksum.specs.Checksum.{damaged}
 use Rattle.identify.specs.Drive.{equal}
 use Rattle.identify.proofs.Drive.{equal-of, equal-same}
-use Rattle.page83.specs.declared.Ports.{Ports}
-use Rattle.page83.specs.Ports.{relativeChosen, isPort, wrongPort}
+use Rattle.port.specs.declared.Ports.{Ports}
+use Rattle.port.specs.Ports.{relativeChosen, isPort, wrongPort}
 use Rattle.page83.specs.Page83.{driveDescriptor, page83}
 use Rattle.pages.specs.Page.{standard, page00, page80, page89}
 use Rattle.packet.specs.Packet.{packetDrive}

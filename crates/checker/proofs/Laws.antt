@@ -12,11 +12,13 @@ use Rattle.identify.specs.Drive.{carriesName, equal}
 use Rattle.identify.proofs.Drive.{equal-of, equal-same, never}
 use Rattle.agreement.specs.Agreed.{agreed}
 use Rattle.agreement.proofs.Laws.{agreed-self, agreed-whole, agreed-own, then-second}
-use Rattle.page83.specs.declared.Ports.{Ports}
-use Rattle.page83.specs.Ports.{relativeChosen, relativePart, portsPart, wrongAddress}
+use Rattle.port.specs.declared.Ports.{Ports}
+use Rattle.port.specs.Ports.{relativeChosen, relativePart, portsPart, wrongAddress}
 use Rattle.page83.specs.Page83.{head, driveDescriptor, page83}
-use Rattle.page83.specs.Helpers.{driveEnd, portsSize, pageSize}
-use Rattle.page83.proofs.Laws.{length-drive, length-relative, named-or-not, page-size}
+use Rattle.port.specs.Helpers.{portsSize}
+use Rattle.page83.specs.Helpers.{driveEnd, pageSize}
+use Rattle.port.proofs.Laws.{length-relative}
+use Rattle.page83.proofs.Laws.{length-drive, named-or-not, page-size}
 use Rattle.pages.specs.Page.{informationHead, informationCode, page89, blockOrZeros}
 use Rattle.pages.proofs.Laws.{length-page89}
 use Rattle.checker.specs.Ports.{portsIn, addressIn, claimedPorts, claimedAddress, claimedPage}

@@ -7,7 +7,7 @@ use lib.ListN.{take, drop}
 use Rattle.rules.specs.First.{Check, _when_, first}
 use Rattle.checksum.specs.Checksum.{damaged}
 use Rattle.identify.specs.Drive.{equal}
-use Rattle.page83.specs.declared.Ports.{Ports}
+use Rattle.port.specs.declared.Ports.{Ports}
 use Rattle.page83.specs.Page83.{page83}
 use Rattle.pages.specs.Page.{standard, page00, page80, page89}
 use Rattle.packet.specs.Packet.{packetDrive}

@@ -5,8 +5,8 @@ use mathlib.Core.List.{List, [], _∷_, _++_, List·Memᴰ}
 use Prim.Native.Nat.{ℕ, _≤_, _<_}
 use lib.ListN.{length, getD}
 use Rattle.checksum.specs.Checksum.{damaged}
-use Rattle.page83.specs.declared.Ports.{Ports}
-use Rattle.page83.specs.Ports.{wrongAddress, wrongPort}
+use Rattle.port.specs.declared.Ports.{Ports}
+use Rattle.port.specs.Ports.{wrongAddress, wrongPort}
 use Rattle.packet.specs.Packet.{packetDrive}
 use Rattle.capture.specs.Capture.{Field, field}
 use Rattle.capture.specs.Layout.{LaidOut}

@@ -4,8 +4,8 @@ use mathlib.Core.List.{List, _++_}
 use Prim.Native.Nat.{ℕ, _+_, _-_}
 use lib.Dec.{eqb}
 use lib.ListN.{length, getD, take, drop, replicate}
-use Rattle.page83.specs.declared.Ports.{Ports}
-use Rattle.page83.specs.Ports.{relativePart}
+use Rattle.port.specs.declared.Ports.{Ports}
+use Rattle.port.specs.Ports.{relativePart}
 use Rattle.page83.specs.Page83.{driveDescriptor, page83}
 
 -- Byte 3 tells the size of all descriptors, and so which ports follow a drive's descriptor of this size; where it tells of none, none.

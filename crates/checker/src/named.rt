@@ -1,8 +1,7 @@
 // Page 83h: beside the page of the block with the ports that the field itself tells.
 use crate::Held;
 use crate::plain;
-use page83::Ports;
-use page83::port;
+use port::Ports;
 ghost use mathlib.Core.Path.{_≡_};
 ghost use mathlib.Core.Bool.{Bool};
 ghost use mathlib.Core.List.{List};
@@ -12,7 +11,7 @@ ghost use Rattle.identify.specs.Block.{serial, model, name};
 ghost use Rattle.identify.specs.Drive.{carriesName};
 ghost use Rattle.texts.specs.Text.{turned, spaced};
 ghost use Rattle.page83.specs.Helpers.{driveEnd};
-ghost use Rattle.page83.specs.Ports.{relativePart, sasPart, portsPart};
+ghost use Rattle.port.specs.Ports.{relativePart, sasPart, portsPart};
 ghost use Rattle.page83.specs.Page83.{nameDescriptor, textDescriptor, driveDescriptor, page83 as Page83·page83};
 ghost use Rattle.agreement.specs.Agreed.{agreed};
 ghost use Rattle.checker.specs.Ports.{chosenBy, portBy, portsIn, addressIn, claimedPage};

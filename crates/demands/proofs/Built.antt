@@ -21,7 +21,7 @@ use Rattle.builder.specs.Fields.{offLineFor, multipleCountFor, lengthBits}
 use Rattle.builder.specs.Buildable.{every, withoutUpper, hasDirection, dataFit, ofCommand, ofReset, tests, buildable}
 use Rattle.builder.specs.Builder.{short, long, built, build}
 use Rattle.builder.proofs.Laws.{Each, each, every-of, one-of, small}
-use Rattle.sense.proofs.Table.{all-below, at}
+use Rattle.rules.proofs.Below.{all-below, at}
 use Rattle.builder.proofs.Inverse.{off-line-back, multiple-count-back}
 use Rattle.passthrough.specs.Record.{nothingPending, resetPending}
 use Rattle.passthrough.specs.Submit as Submit

@@ -9,9 +9,9 @@ use lib.ListN.{length, take}
 use borrow.Author.Tests.{eq-eqb, le-ltb, leb-true, leb-false}
 use Rattle.checksum.specs.Checksum.{sumOf, damagedBy, damaged, anyDamaged}
 use Rattle.checksum.proofs.Laws.{damaged-at, damaged-size}
-use Rattle.sense.specs.Refusal.{rowOf, refusedSense, noStatus}
-use Rattle.page83.specs.declared.Ports.{Ports}
-use Rattle.page83.specs.Ports.{wrongAddress}
+use Rattle.refusals.specs.Refusal.{rowOf, refusedSense, noStatus}
+use Rattle.port.specs.declared.Ports.{Ports}
+use Rattle.port.specs.Ports.{wrongAddress}
 use Rattle.page83.specs.Page83 as Page83
 use Rattle.page83.specs.Page83.{write}
 use Rattle.inquiry_checks.specs.Request.{Request, request}

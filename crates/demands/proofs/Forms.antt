@@ -10,12 +10,12 @@ use borrow.Author.Tests.{eqb-true, eqb-false}
 use Rattle.rules.proofs.First.{silent}
 use Rattle.room.specs.Room.{written}
 use Rattle.sense.specs.Sense.{Told, registers as showing, isFixed, fixedSense, descriptorSense, senseData}
-use Rattle.sense.specs.Refusal.{rowOf, refusedSense, good, busy, noStatus, checkCondition}
-use Rattle.sense.specs.Helpers.{Roomy}
-use Rattle.sense.proofs.Sense.{roomy-unless}
-use Rattle.sense.proofs.Table.{checks, writes, writes-nothing, busy-or-none}
+use Rattle.refusals.specs.Refusal.{rowOf, refusedSense, good, busy, noStatus, checkCondition}
+use Rattle.refusals.specs.Helpers.{Roomy}
+use Rattle.refusals.proofs.Table.{roomy-unless}
+use Rattle.refusals.proofs.Table.{checks, writes, writes-nothing, busy-or-none}
 use Rattle.sense.proofs.Carried.{forms-agree, written-agree}
-use Rattle.page83.specs.declared.Ports.{Ports}
+use Rattle.port.specs.declared.Ports.{Ports}
 use Rattle.inquiry_checks.specs.Request.{Request, request, isPacket, passesThrough}
 use Rattle.inquiry_checks.specs.Checks as InquiryChecks
 use Rattle.inquiry_checks.proofs.Laws as InquiryLaws

@@ -22,8 +22,8 @@ use Rattle.identify.proofs.Words.{field-word}
 use Rattle.texts.proofs.Text.{length-turned}
 use Rattle.laws.proofs.Laws.{turned-twice, turned-injective, turned-spaced}
 use Rattle.identify.proofs.Drive.{named-some-bit, said-named, equal-of, equal-same, OneName, OneText, same-drive-means, same-drive-when}
-use Rattle.page83.specs.declared.Ports.{Ports}
-use Rattle.page83.specs.Ports.{portsPart, wrongAddress, wrongPort}
+use Rattle.port.specs.declared.Ports.{Ports}
+use Rattle.port.specs.Ports.{portsPart, wrongAddress, wrongPort}
 use Rattle.page83.specs.Page83 as Page83
 use Rattle.page83.specs.Page83.{head, nameDescriptor, textDescriptor, driveDescriptor, page83, checks, refusalOf, Outcome, write}
 use Rattle.page83_reader.specs.declared.Name.{Name}

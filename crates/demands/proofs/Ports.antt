@@ -13,9 +13,9 @@ use Rattle.room.specs.Room.{written}
 use Rattle.room.proofs.Laws.{written-front, next}
 use Rattle.identify.specs.Drive.{equal}
 use Rattle.identify.proofs.Drive.{equal-same}
-use Rattle.page83.specs.declared.Ports.{Ports}
-use Rattle.page83.specs.Ports.{relativeChosen, sasChosen, relativeHead, relativePort, sasPort, relativePart, sasPart, portsPart, isPort, wrongAddress, wrongPort}
-use Rattle.page83.proofs.Laws.{right-address, right-port}
+use Rattle.port.specs.declared.Ports.{Ports}
+use Rattle.port.specs.Ports.{relativeChosen, sasChosen, relativeHead, relativePort, sasPort, relativePart, sasPart, portsPart, isPort, wrongAddress, wrongPort}
+use Rattle.port.proofs.Laws.{right-address, right-port}
 use Rattle.page83_reader.specs.Reader.{twoBytes, relativeIn, behindRelative, tellsSas, sasOrNothing, tellsPorts, portsOf, portsIn, addressOf, addressIn}
 use Rattle.page83_reader.proofs.Zero.{relative-long}
 use Rattle.demands.specs.Promises.{toldPorts, toldAddress, SamePorts}

@@ -8,7 +8,7 @@ use lib.Dec.{eqb, ltb}
 use lib.ListN.{length, take, drop, replicate}
 use borrow.Author.Tests.{eq-eqb, eqb-true}
 use Rattle.rules.specs.First.{_when_, first}
-use Rattle.page83.specs.declared.Ports.{Ports}
+use Rattle.port.specs.declared.Ports.{Ports}
 use Rattle.page83.specs.Page83 as Page83
 use Rattle.page83.specs.Page83.{write}
 use Rattle.page83_reader.specs.declared.Name.{Name}

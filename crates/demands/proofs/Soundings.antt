@@ -5,8 +5,8 @@ use Rattle.checksum.specs.Checksum.{damaged, damagedBy}
 use Rattle.identify.specs.Drive.{someBit, carriesName, equal}
 use Rattle.identify.specs.Sector.{sectorSize}
 use Rattle.sense.specs.Sense.{isFixed, descriptorSense, senseData}
-use Rattle.sense.specs.Refusal.{rowOf, refusedSense}
-use Rattle.page83.specs.Ports.{relativePart, sasPart, wrongAddress, wrongPort}
+use Rattle.refusals.specs.Refusal.{rowOf, refusedSense}
+use Rattle.port.specs.Ports.{relativePart, sasPart, wrongAddress, wrongPort}
 use Rattle.page83.specs.Page83.{driveDescriptor, page83}
 use Rattle.inquiry_checks.specs.Asked.{page}
 use Rattle.inquiry_checks.specs.Checks.{refusalOf as inquiryRefusal}

@@ -14,14 +14,14 @@ use Rattle.room.specs.Room.{written}
 use Rattle.texts.specs.Text.{turned, spaced}
 use Rattle.checksum.specs.Checksum.{sumOf, damagedBy, damaged}
 use Rattle.sense.specs.Sense.{Told, isFixed, fixedSense, descriptorSense, unstated, fixed, descriptor, senseData}
-use Rattle.sense.specs.Refusal.{noStatus, checkCondition}
+use Rattle.refusals.specs.Refusal.{noStatus, checkCondition}
 use Rattle.sense.specs.Carried.{sensed, inFixed, inDescriptor}
 use Rattle.identify.specs.Block.{serial, model, name}
 use Rattle.identify.specs.Bytes.{Bytes}
 use Rattle.identify.specs.Words.{NameInWords, TextsInWords}
 use Rattle.identify.specs.Drive.{carriesName, sameDrive}
-use Rattle.page83.specs.declared.Ports.{Ports}
-use Rattle.page83.specs.Ports.{relativeChosen, sasChosen, wrongAddress, wrongPort}
+use Rattle.port.specs.declared.Ports.{Ports}
+use Rattle.port.specs.Ports.{relativeChosen, sasChosen, wrongAddress, wrongPort}
 use Rattle.page83.specs.Page83 as Page83
 use Rattle.page83.specs.Page83.{page83, write}
 use Rattle.page83_reader.specs.declared.Name.{Name}

@@ -8,7 +8,7 @@ use lib.Dec.{eqb}
 use lib.ListN.{length, drop, replicate}
 use Rattle.identify.specs.Drive.{equal}
 use Rattle.sense.specs.Sense.{descriptor}
-use Rattle.sense.specs.Refusal.{rowOf, refusedSense, good, checkCondition, noStatus}
+use Rattle.refusals.specs.Refusal.{rowOf, refusedSense, good, checkCondition, noStatus}
 use Rattle.inquiry_checks.specs.Request.{request}
 use Rattle.inquiry.specs.Inquiry.{inquiry, Outcome}
 use Rattle.passthrough_order.specs.declared.Order.{Order}

@@ -166,7 +166,7 @@ fn say_page(page: &[u8], count: usize) -> bool {
 // The name that a block's page 83h tells.
 fn say_block(block: &[u8]) -> bool {
     let mut page = [0u8; 76];
-    let written = page83::write(block, page83::no_ports(), b"", &mut page);
+    let written = page83::write(block, port::no_ports(), b"", &mut page);
     if written.number == 18 {
         return say(b"damaged block\n");
     }

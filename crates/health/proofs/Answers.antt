@@ -7,7 +7,7 @@ use lib.Dec.{eqb}
 use lib.ListN.{length, getD}
 use borrow.Author.Tests.{eq-eqb}
 use Rattle.room.specs.Room.{written}
-use Rattle.sense.specs.Refusal.{rowOf, refusedSense, checkCondition}
+use Rattle.refusals.specs.Refusal.{rowOf, refusedSense, checkCondition}
 use Rattle.sense.specs.Sense.{descriptor, isFixed, descriptorSense, senseData, registers as showing}
 use Rattle.passthrough_order.specs.Order.{orderOf}
 use Rattle.passthrough_fields.specs.Length.{lengthOf}

@@ -4,7 +4,7 @@ use mathlib.Core.List.{List}
 use Prim.Native.Nat.{ℕ}
 use lib.Dec.{eqb}
 use lib.ListN.{getD}
-use Rattle.sense.specs.Refusal.{rowOf, checkCondition}
+use Rattle.refusals.specs.Refusal.{rowOf, checkCondition}
 use Rattle.passthrough.specs.Complete.{failed}
 use Rattle.health.specs.declared.Said.{Said}
 use Rattle.health.specs.declared.Said.the-variants.{Healthy, Failing, Unknown, Error, Refused}

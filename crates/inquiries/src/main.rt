@@ -73,7 +73,7 @@ fn ask(command: &[u8], block: &[u8], signature: &[u8], reply: &[u8]) -> bool {
         signature,
         b"PIONG   SAT BRIDGE      4   ",
         reply,
-        page83::no_ports(),
+        port::no_ports(),
         b"",
         sense::UNSTATED,
         &mut room,

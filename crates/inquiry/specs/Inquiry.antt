@@ -4,7 +4,7 @@ use mathlib.Core.List.{List, _++_}
 use Prim.Native.Nat.{ℕ, min}
 use lib.Dec.{eqb}
 use lib.ListN.{length, take, drop}
-use Rattle.sense.specs.Refusal.{rowOf, refusedSense, good}
+use Rattle.refusals.specs.Refusal.{rowOf, refusedSense, good}
 use Rattle.inquiry_fields.specs.Fields.{allocation}
 use Rattle.inquiry_checks.specs.Request.{Request, isPacket, passesThrough}
 use Rattle.inquiry_checks.specs.Asked.{page, toWrite}

@@ -1,16 +1,16 @@
 // Inquiry: the entry that answers INQUIRY, and the part that an answer shows. The rule stands in specs/Inquiry.
-use page83::Ports;
+use port::Ports;
 ghost use mathlib.Core.Path.{_≡_};
 ghost use mathlib.Core.Bool.{Bool, true, false};
 ghost use mathlib.Core.List.{List};
 ghost use Prim.Native.Nat.{_≤_};
 ghost use lib.ListN.{length};
 ghost use Rattle.room.specs.Room.{Wrote};
-ghost use Rattle.page83.specs.Ports.{wrongAddress};
+ghost use Rattle.port.specs.Ports.{wrongAddress};
 ghost use Rattle.page83.specs.Page83.{page83};
 ghost use Rattle.page83.specs.Helpers.{Whole};
-ghost use Rattle.sense.specs.Refusal.{rowOf, refusedSense};
-ghost use Rattle.sense.specs.Helpers.{Roomy};
+ghost use Rattle.refusals.specs.Refusal.{rowOf, refusedSense};
+ghost use Rattle.refusals.specs.Helpers.{Roomy};
 ghost use Rattle.inquiry_checks.specs.Request.{request};
 ghost use Rattle.inquiry_checks.specs.Helpers.{driveAsked, fromBlock, Servable};
 ghost use Rattle.inquiry_checks.specs.Asked.{page as Inquiry·page};
@@ -90,7 +90,7 @@ fn refuse(sense: &mut [u8], form: u8, number: u8) -> Answer
     ensures answer { λ r. ⌜ r ≡ record { number = number; status = rowOf number .status; shown = 1; count = 0 } ⌝ }
     ensures sense { λ _. ⌜ now (sense .exit) ≡ refusedSense form number (now (sense .entry)) ⌝ }
 {
-    let status = sense::refuse(sense, form, number);
+    let status = refusals::refuse(sense, form, number);
     Answer {
         number,
         status,
@@ -132,7 +132,7 @@ pub fn inquiry(
     if inquiry_checks::passes_through(packet, command) {
         return Answer {
             number: 0,
-            status: sense::GOOD,
+            status: refusals::GOOD,
             shown: 0,
             count: rules::lesser(reply.len(), allocation),
         };
@@ -141,7 +141,7 @@ pub fn inquiry(
     if whole != 0 {
         return Answer {
             number: 0,
-            status: sense::GOOD,
+            status: refusals::GOOD,
             shown: 1,
             count: whole,
         };
@@ -152,7 +152,7 @@ pub fn inquiry(
     if room.len() < n {
         return Answer {
             number: 8,
-            status: sense::NONE,
+            status: refusals::NONE,
             shown: 1,
             count: 0,
         };
@@ -169,7 +169,7 @@ pub fn inquiry(
     );
     Answer {
         number: 0,
-        status: sense::GOOD,
+        status: refusals::GOOD,
         shown: 1,
         count: n,
     }

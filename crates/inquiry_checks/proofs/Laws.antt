@@ -7,12 +7,12 @@ use lib.Dec.{eqb, ltb}
 use lib.ListN.{length, take, drop}
 use borrow.Author.Tests.{eq-eqb, ne-eqb, eqb-true, eqb-false, ltb-false, not-false}
 use Rattle.rules.proofs.First.{silent, neither, first-answers, second-answers}
-use Rattle.sense.specs.Helpers.{Roomy}
-use Rattle.sense.proofs.Sense.{roomy-unless}
+use Rattle.refusals.specs.Helpers.{Roomy}
+use Rattle.refusals.proofs.Table.{roomy-unless}
 use Rattle.pages.specs.Page.{page00, page89, blockOrZeros}
 use Rattle.pages.proofs.Laws.{length-page89}
-use Rattle.page83.specs.declared.Ports.{Ports}
-use Rattle.page83.specs.Ports.{wrongAddress}
+use Rattle.port.specs.declared.Ports.{Ports}
+use Rattle.port.specs.Ports.{wrongAddress}
 use Rattle.page83.specs.Page83.{page83}
 use Rattle.page83.proofs.Laws.{page-size}
 use Rattle.packet.specs.Packet.{unusable}

@@ -6,8 +6,8 @@ use lib.Dec.{eqb, ltb}
 use lib.ListN.{length, getD}
 use Rattle.rules.specs.First.{Check, _when_, first}
 use Rattle.checksum.specs.Checksum.{damaged}
-use Rattle.page83.specs.declared.Ports.{Ports}
-use Rattle.page83.specs.Ports.{wrongAddress, wrongPort}
+use Rattle.port.specs.declared.Ports.{Ports}
+use Rattle.port.specs.Ports.{wrongAddress, wrongPort}
 use Rattle.packet.specs.Packet.{unusable}
 use Rattle.inquiry_fields.specs.Fields.{evpd, cmddt, pageCode, naca}
 use Rattle.inquiry_checks.specs.Request.{Request, isPacket, passesThrough}

@@ -6,8 +6,8 @@ use Prim.Native.Nat.{ℕ, _+_, _≤_}
 use lib.Dec.{eqb}
 use lib.ListN.{length, take, drop}
 use Rattle.rules.specs.First.{first}
-use Rattle.page83.specs.declared.Ports.{Ports}
-use Rattle.page83.specs.Ports.{wrongAddress}
+use Rattle.port.specs.declared.Ports.{Ports}
+use Rattle.port.specs.Ports.{wrongAddress}
 use Rattle.page83.specs.Helpers.{pageSize}
 use Rattle.pages.specs.Page.{standard, page80, blockOrZeros}
 use Rattle.pages.specs.Helpers.{WholeOrNone}

@@ -3,7 +3,7 @@ use mathlib.Core.Bool.{Bool, _&&_, _||_, not}
 use mathlib.Core.List.{List}
 use Prim.Native.Nat.{ℕ}
 use lib.Dec.{eqb}
-use Rattle.page83.specs.declared.Ports.{Ports}
+use Rattle.port.specs.declared.Ports.{Ports}
 use Rattle.packet.specs.Packet.{packetDrive}
 use Rattle.inquiry_fields.specs.Fields.{evpd, cmddt, pageCode}
 

@@ -1,7 +1,6 @@
 // Inquiry checks: what is asked of INQUIRY, the size of its page, and the checks, one function each; `fault` runs them in the table's
 // order. The rules stand in specs/: Request, Asked and Checks.
-use page83::Ports;
-use page83::port;
+use port::Ports;
 ghost use mathlib.Core.Path.{_≡_};
 ghost use mathlib.Core.Bool.{Bool, true, _&&_, _||_, not};
 ghost use mathlib.Core.List.{List};

@@ -1,13 +1,11 @@
--- Laws of page 83h: the forms of its first descriptor, the ports' part, and their lengths.
+-- Laws of page 83h: the forms of its first descriptor, and lengths.
 use mathlib.Core.Path.{_≡_, refl, sym, ap, _∙_}
-use mathlib.Core.Bool.{Bool, true, false, cond, _||_, not}
+use mathlib.Core.Bool.{Bool, true, false}
 use mathlib.Core.List.{List, [], _∷_, _++_}
 use Prim.Native.Nat.{ℕ, _+_, _≤_, _<_}
 use native.Mathlib.Omega.{arith}
-use lib.Dec.{eqb}
 use lib.ListN.{length, set, length-append}
-use borrow.Author.Tests.{eq-eqb, eqb-true, lt-ltb, le-ltb, not-false}
-use Rattle.rules.proofs.First.{neither}
+use borrow.Author.Tests.{eq-eqb, lt-ltb, le-ltb}
 use Rattle.room.specs.Room.{written, Wrote}
 use Rattle.room.proofs.Laws.{length-written, written-front}
 use Rattle.checksum.specs.Checksum.{damaged}
@@ -16,10 +14,12 @@ use Rattle.texts.specs.Text.{turned, spaced}
 use Rattle.identify.specs.Drive.{carriesName}
 use Rattle.identify.proofs.Block.{length-serial, length-model, length-name}
 use Rattle.texts.proofs.Text.{length-turned, length-spaced}
-use Rattle.page83.specs.declared.Ports.{Ports}
-use Rattle.page83.specs.Ports.{relativeChosen, sasChosen, relativePort, sasPort, relativePart, sasPart, portsPart, wrongAddress, isPort, wrongPort}
+use Rattle.port.specs.declared.Ports.{Ports}
+use Rattle.port.specs.Ports.{portsPart, wrongAddress, wrongPort}
+use Rattle.port.proofs.Laws.{length-ports}
 use Rattle.page83.specs.Page83.{page83, head, nameDescriptor, textDescriptor, driveDescriptor, ata, refusalOf, outcome, write}
-use Rattle.page83.specs.Helpers.{portsSize, driveEnd, pageSize, Grows}
+use Rattle.port.specs.Helpers.{portsSize}
+use Rattle.page83.specs.Helpers.{driveEnd, pageSize, Grows}
 
 module _ (block : List ℕ) where
   pub named-drive : carriesName block ≡ true → driveDescriptor block ≡ nameDescriptor (turned (name block))
@@ -63,49 +63,6 @@ module _ (block : List ℕ) (h : length block ≡ 512) where
       let m = spaced (turned (model block)) in
       let s = spaced (turned (serial block)) in
       omega (arith, length-append (ata ++ m) s, length-append ata m, length-model-text, length-serial-text)
-
--- The size of the ports' part, where a chosen address has its 8 bytes.
-module _ (ports : Ports) where
-  pub right-port : wrongPort ports ≡ false → relativeChosen ports ≡ true → isPort (ports .relative) ≡ true
-  unfolding wrongPort
-  right-port h c = not-false _ (rw c at h)
-
-  pub length-relative : length (relativePart ports) ≡ cond (relativeChosen ports) 8 0
-  unfolding relativePart
-  length-relative = by (relativeChosen ports)
-    where
-      by : (b : Bool) → length (cond b (relativePort (ports .relative)) []) ≡ cond b 8 0
-      by true = refl
-      by false = refl
-
-  pub nothing-sized : (relativeChosen ports || sasChosen ports) ≡ false → portsSize ports ≡ 0
-  unfolding portsSize
-  nothing-sized e =
-      let none = neither (relativeChosen ports) (sasChosen ports) e in
-      rw (none .0, none .1)
-
-module _ (ports : Ports) (address : List ℕ) where
-  pub right-address : wrongAddress ports address ≡ false → sasChosen ports ≡ true → length address ≡ 8
-  unfolding wrongAddress
-  right-address h c = eqb-true _ _ (not-false _ (rw c at h))
-
-  pub nothing-chosen : (relativeChosen ports || sasChosen ports) ≡ false → portsPart ports address ≡ []
-  unfolding relativePart sasPart
-  nothing-chosen e =
-      let none = neither (relativeChosen ports) (sasChosen ports) e in
-      rw (none .0, none .1)
-
-  pub length-sas : wrongAddress ports address ≡ false → length (sasPart ports address) ≡ cond (sasChosen ports) 12 0
-  unfolding sasPart
-  length-sas h = by (sasChosen ports) refl
-    where
-      by : (b : Bool) → sasChosen ports ≡ b → length (cond b (sasPort address) []) ≡ cond b 12 0
-      by true c = omega (arith, right-address h c)
-      by false c = refl
-
-  pub length-ports : wrongAddress ports address ≡ false → length (portsPart ports address) ≡ portsSize ports
-  unfolding portsSize
-  length-ports h = length-append (relativePart ports) (sasPart ports address) ∙ rw (length-relative ports, length-sas h)
 
 -- The length in a page's head, put again.
 again : (before drive : List ℕ) (n m : ℕ) → 4 ≤ length before → set (written before 0 (head n ++ drive)) 3 m ≡ written before 0 (head m ++ drive)

@@ -6,13 +6,10 @@ use Prim.Native.Nat.{ℕ, _+_, _≤_}
 use lib.ListN.{length}
 use Rattle.room.specs.Room.{Wrote}
 use Rattle.identify.specs.Drive.{carriesName}
-use Rattle.page83.specs.declared.Ports.{Ports}
-use Rattle.page83.specs.Ports.{relativeChosen, sasChosen, portsPart}
+use Rattle.port.specs.declared.Ports.{Ports}
+use Rattle.port.specs.Ports.{portsPart}
+use Rattle.port.specs.Helpers.{portsSize}
 use Rattle.page83.specs.Page83.{head}
-
--- The size of the ports' part.
-unfoldable pub portsSize : Ports → ℕ
-portsSize ports = cond (relativeChosen ports) 8 0 + cond (sasChosen ports) 12 0
 
 -- Where the drive's descriptor ends, by whether it is a name.
 abbrev pub driveEnd : Bool → ℕ

@@ -1,4 +1,3 @@
--- Page 83h, the page that names the drive, and the target ports that it tells behind the name.
-pub mod Ports
+-- Page 83h, the page that names the drive.
 pub mod Page83
 pub mod Helpers

@@ -10,9 +10,9 @@ use Rattle.checksum.specs.Checksum.{damaged}
 use Rattle.identify.specs.Block.{serial, model, name}
 use Rattle.texts.specs.Text.{turned, spaced}
 use Rattle.identify.specs.Drive.{carriesName}
-use Rattle.page83.specs.declared.Ports.{Ports}
+use Rattle.port.specs.declared.Ports.{Ports}
 use Rattle.page83.specs.declared.Written.{Written}
-use Rattle.page83.specs.Ports.{portsPart, wrongAddress, wrongPort}
+use Rattle.port.specs.Ports.{portsPart, wrongAddress, wrongPort}
 
 -- The vendor field: ATA and five spaces.
 abbrev pub ata : List ℕ

@@ -1,7 +1,6 @@
 // Page 83h: the page that names a drive, for whoever has a block and room, with the target ports that are chosen behind the name. The
-// rules stand in specs/: Page83 and Ports; `page83_reader` reads the page.
-pub mod port;
-
+// rules stand in specs/Page83, those of the ports in `port`; `page83_reader` reads the page.
+use port::Ports;
 ghost use mathlib.Core.Path.{_≡_};
 ghost use mathlib.Core.Bool.{Bool, true, false};
 ghost use mathlib.Core.List.{List, _++_};
@@ -11,17 +10,10 @@ ghost use Rattle.room.specs.Room.{Wrote};
 ghost use Rattle.identify.specs.Block.{serial, model, name};
 ghost use Rattle.identify.specs.Drive.{carriesName};
 ghost use Rattle.texts.specs.Text.{turned, spaced};
-ghost use Rattle.page83.specs.Ports.{portsPart, wrongAddress};
+ghost use Rattle.port.specs.Ports.{portsPart, wrongAddress};
 ghost use Rattle.page83.specs.Page83.{page83, head, nameDescriptor, textDescriptor, outcome, write as Page83·write};
-ghost use Rattle.page83.specs.Helpers.{portsSize, pageSize, Grows, Whole};
-
-// The target ports that a caller chooses: bit 0 the relative one, whose number stands beside it, bit 1 the SAS one, whose address is
-// lent.
-#[repr(C)]
-pub struct Ports {
-    pub chosen: u16,
-    pub relative: u16,
-}
+ghost use Rattle.port.specs.Helpers.{portsSize};
+ghost use Rattle.page83.specs.Helpers.{pageSize, Grows, Whole};
 
 // What the descriptor of a name starts with: CODE SET binary, DESIGNATOR TYPE NAA, DESIGNATOR LENGTH.
 pub const NAME_HEAD: [u8; 4] = [0x01, 0x03, 0x00, 0x08];
@@ -47,16 +39,6 @@ pub const TEXT_HEAD: [u8; 12] = [
 pub struct Written {
     pub number: u8,
     pub count: usize,
-}
-
-// A choice of no port.
-pub fn no_ports() -> Ports
-    ensures { λ r. ⌜ r ≡ record { chosen = 0; relative = 0 } ⌝ }
-{
-    Ports {
-        chosen: 0,
-        relative: 0,
-    }
 }
 
 // Head and descriptor of a drive that carries a name, in room that holds them; the head tells the bytes behind it.

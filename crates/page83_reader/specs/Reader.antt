@@ -7,8 +7,8 @@ use lib.ListN.{length, getD, take, drop, replicate}
 use Rattle.rules.specs.Bits.{flag}
 use Rattle.room.specs.Room.{written}
 use Rattle.identify.specs.Drive.{someBit, equal}
-use Rattle.page83.specs.declared.Ports.{Ports}
-use Rattle.page83.specs.Ports.{relativeHead, sasPort, isPort}
+use Rattle.port.specs.declared.Ports.{Ports}
+use Rattle.port.specs.Ports.{relativeHead, sasPort, isPort}
 use Rattle.page83.specs.Page83.{head, nameDescriptor, textDescriptor}
 use Rattle.page83_reader.specs.declared.Name.{Name}
 

@@ -1,10 +1,9 @@
 // Page 83h reader: reads a page 83h, and gives back the name and the ports that went in. The rule stands in specs/Reader.
 use page83::NAME_HEAD;
-use page83::Ports;
 use page83::TEXT_HEAD;
-use page83::port;
-use page83::port::RELATIVE_HEAD;
-use page83::port::SAS_HEAD;
+use port::Ports;
+use port::RELATIVE_HEAD;
+use port::SAS_HEAD;
 ghost use mathlib.Core.Path.{_≡_};
 ghost use mathlib.Core.Bool.{Bool, true, cond};
 ghost use mathlib.Core.List.{List};
@@ -153,7 +152,7 @@ fn refused() -> Name
         number: 16,
         form: 0,
         name: [0x00u8; 60],
-        ports: page83::no_ports(),
+        ports: port::no_ports(),
         address: [0x00u8; 8],
     }
 }

@@ -4,8 +4,8 @@ use mathlib.Core.List.{List}
 use Prim.Native.Nat.{ℕ, _≤_}
 use lib.ListN.{length}
 use Rattle.rules.proofs.First.{silent}
-use Rattle.sense.specs.Helpers.{Roomy}
-use Rattle.sense.proofs.Sense.{roomy-unless}
+use Rattle.refusals.specs.Helpers.{Roomy}
+use Rattle.refusals.proofs.Table.{roomy-unless}
 use Rattle.passthrough_checks.specs.Checks.{wrongSize}
 use Rattle.passthrough_checks.proofs.Laws.{sized}
 use Rattle.passthrough.specs.declared.Pending.{Pending}

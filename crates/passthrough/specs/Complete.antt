@@ -7,7 +7,7 @@ use lib.ListN.{length, getD}
 use Rattle.rules.specs.Bits.{bit, flag}
 use Rattle.rules.specs.First.{Check, _when_, first}
 use Rattle.room.specs.Room.{written}
-use Rattle.sense.specs.Refusal.{rowOf, refusedSense, good, checkCondition}
+use Rattle.refusals.specs.Refusal.{rowOf, refusedSense, good, checkCondition}
 use Rattle.sense.specs.Sense.{senseData, registers as told}
 use Rattle.passthrough_order.specs.declared.Order.{Order}
 use Rattle.passthrough_checks.specs.Checks.{wrongSize}

@@ -5,7 +5,7 @@ use Prim.Native.Nat.{ℕ}
 use lib.Dec.{eqb}
 use lib.ListN.{length}
 use Rattle.room.specs.Room.{written}
-use Rattle.sense.specs.Refusal.{rowOf, refusedSense, noStatus, checkCondition}
+use Rattle.refusals.specs.Refusal.{rowOf, refusedSense, noStatus, checkCondition}
 use Rattle.sense.specs.Sense.{senseData, registers as told}
 use Rattle.passthrough_order.specs.declared.Order.{Order}
 use Rattle.passthrough_fields.specs.Fields.{protocol}

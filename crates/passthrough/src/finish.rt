@@ -57,11 +57,11 @@ pub fn tell(order: Order, registers: &[u8], form: u8, sense: &mut [u8]) -> u8
     let extend = order.extend != 0;
     if failed {
         sense::report(sense, form, 0x0B, 0x00, 0x00, extend, registers);
-        return sense::CHECK_CONDITION;
+        return refusals::CHECK_CONDITION;
     }
     if checked {
         sense::report(sense, form, 0x01, 0x00, 0x1D, extend, registers);
-        return sense::CHECK_CONDITION;
+        return refusals::CHECK_CONDITION;
     }
-    sense::GOOD
+    refusals::GOOD
 }

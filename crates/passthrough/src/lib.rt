@@ -128,12 +128,12 @@ impl Pending {
             sense.len(),
         );
         if number != 0 {
-            return without_order(self, number, sense::refuse(sense, form, number));
+            return without_order(self, number, refusals::refuse(sense, form, number));
         }
         let protocol = passthrough_fields::protocol(command);
         if protocol == 15 {
             sense::report(sense, form, 0x01, 0x00, 0x1D, false, registers);
-            return without_order(self, 0, sense::CHECK_CONDITION);
+            return without_order(self, 0, refusals::CHECK_CONDITION);
         }
         let lacking = length::lacking(later, block, command);
         let sent = sent::read(command);
@@ -141,10 +141,10 @@ impl Pending {
         let bytes = length::in_bytes(size, command, sent, declared);
         let late = passthrough_checks::length_fault(protocol, lacking, bytes.0, declared);
         if late != 0 {
-            return without_order(self, late, sense::refuse(sense, form, late));
+            return without_order(self, late, refusals::refuse(sense, form, late));
         }
         let order = read::order(command, sent, bytes.0);
-        answer(held::taking(self, order), 0, sense::NONE, order)
+        answer(held::taking(self, order), 0, refusals::NONE, order)
     }
 
     // The end of the order that is pending, or of the reset over it, with the registers that the drive left; an order under a reset is lost.
@@ -154,7 +154,7 @@ impl Pending {
         let empty = Pending::empty();
         let number = finish::fault(self, registers, sense.len());
         if number != 0 {
-            return end(self, number, sense::refuse(sense, form, number), 0, 0);
+            return end(self, number, refusals::refuse(sense, form, number), 0, 0);
         }
         let lost = finish::lost(self);
         let lost_protocol = finish::lost_protocol(self);

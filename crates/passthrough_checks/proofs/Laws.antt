@@ -8,9 +8,9 @@ use native.Mathlib.Omega.{arith}
 use lib.Dec.{eqb, ltb}
 use lib.ListN.{length, getD}
 use borrow.Author.Tests.{eqb-true, ltb-false, not-false, eq-eqb, ne-eqb}
-use Rattle.sense.specs.Helpers.{Roomy}
-use Rattle.sense.proofs.Sense.{roomy-unless}
-use Rattle.sense.proofs.Table.{all-below, at}
+use Rattle.refusals.specs.Helpers.{Roomy}
+use Rattle.refusals.proofs.Table.{roomy-unless}
+use Rattle.rules.proofs.Below.{all-below, at}
 use Rattle.rules.specs.First.{Check, first}
 use Rattle.rules.proofs.First.{Silent, silent, neither, first-answers, second-answers}
 use Rattle.passthrough_fields.specs.Fields.{long, longest, size, protocol, tLength, byteBlock, featuresNumber, countNumber}

@@ -2,7 +2,7 @@
 // specs/Received; each is the one that exists, over the intake's block. specs/Stream and proofs/Stream have what they say of streams.
 use inquiry::Answer;
 use intake::Intake;
-use page83::Ports;
+use port::Ports;
 use roll::Counted;
 ghost use mathlib.Core.Path.{_≡_};
 ghost use mathlib.Core.Bool.{false, cond};
@@ -34,7 +34,7 @@ pub fn inquiry(
     if intake::wrong(intake, store.len()) {
         return Answer {
             number: 1,
-            status: sense::NONE,
+            status: refusals::NONE,
             shown: 1,
             count: 0,
         };

@@ -1,4 +1,3 @@
--- The laws of refusals and sense data, for the crates above.
-pub mod Table
+-- The laws of sense data, for the crates above.
 pub mod Sense
 pub mod Carried

@@ -4,8 +4,6 @@ use mathlib.Core.Bool.{Bool, true, false, cond}
 use mathlib.Core.List.{List}
 use Prim.Native.Nat.{ℕ, _≤_}
 use lib.ListN.{length}
-use Rattle.sense.specs.Refusal.{rowOf}
-use Rattle.sense.specs.Helpers.{Roomy}
 use Rattle.sense.specs.Sense.{isFixed, fixedSense, descriptorSense, senseData, nothing}
 
 -- "8 or 18 sense bytes by form"
@@ -16,9 +14,3 @@ length-code form key asc ascq = by (isFixed form)
     by : (t : Bool) → length (cond t (fixedSense key asc ascq nothing) (descriptorSense key asc ascq nothing)) ≡ cond t 18 8
     by true = refl
     by false = refl
-
--- A refusal that writes has room for it, where sizes are looked at first: too little room is 1, which writes nothing.
-pub roomy-unless : (wrong : Bool) (rest : ℕ) {number sense : ℕ} → (wrong ≡ false → 22 ≤ sense) → number ≡ cond wrong 1 rest → Roomy number sense
-unfolding rowOf
-roomy-unless true rest enough n = λ h. absurd (h (rw n))
-roomy-unless false rest enough n = λ h. enough refl

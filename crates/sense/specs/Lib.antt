@@ -1,5 +1,3 @@
--- Refusals and sense data.
-pub mod Refusal
+-- Sense data, in both forms.
 pub mod Sense
 pub mod Carried
-pub mod Helpers

@@ -11,7 +11,7 @@ use borrow.Author.Tests.{eq-eqb, ne-eqb, lt-ltb, le-ltb}
 use Rattle.room.specs.Room.{Wrote}
 use Rattle.room.proofs.Laws.{written-front, cut}
 use Rattle.page83.specs.Page83.{page83}
-use Rattle.sense.specs.Refusal.{rowOf, refusedSense}
+use Rattle.refusals.specs.Refusal.{rowOf, refusedSense}
 use Rattle.inquiry_checks.specs.Request.{Request, request, isPacket, passesThrough}
 use Rattle.inquiry_checks.specs.Asked.{page, toWrite}
 use Rattle.inquiry_checks.specs.Checks.{refusalOf}

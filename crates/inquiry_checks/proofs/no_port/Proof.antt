@@ -1,7 +1,7 @@
 -- `no_port`: where page 83h is asked for, by the port.
 use mathlib.Core.Path.{_≡_, refl, _∙_, sym}
 use mathlib.Core.Bool.{Bool, true, false, _&&_, not, true≢false}
-use Rattle.page83.specs.Ports.{wrongPort}
+use Rattle.port.specs.Ports.{wrongPort}
 use Rattle.inquiry_fields.specs.Fields.{evpd}
 use borrow.Author.Needs.{needs}
 use Rattle.inquiry_checks.proofs.no_port.Statement.{statement}

@@ -1,7 +1,7 @@
 -- `put_ports`: behind the place, where there is anything to write.
 use mathlib.Core.Path.{refl, _∙_, sym}
 use Rattle.room.proofs.Laws.{mid-page}
-use Rattle.page83.proofs.Laws.{nothing-chosen}
+use Rattle.port.proofs.Laws.{nothing-chosen}
 use borrow.Author.Needs.{needs}
 use Rattle.page83.proofs.put_ports.Statement.{statement}
 use Rattle.page83.proofs.put_ports.Tie as tie

@@ -4,7 +4,8 @@ use mathlib.Core.List.{append-nil}
 use native.Mathlib.Omega.{arith}
 use lib.ListN.{length}
 use Rattle.room.proofs.Laws.{beside}
-use Rattle.page83.proofs.Laws.{length-ports, nothing-chosen, nothing-sized, head-again}
+use Rattle.port.proofs.Laws.{length-ports, nothing-chosen, nothing-sized}
+use Rattle.page83.proofs.Laws.{head-again}
 use borrow.Author.Needs.{needs}
 use Rattle.page83.proofs.store_ports.Statement.{statement}
 use Rattle.page83.proofs.store_ports.Tie as tie

@@ -1,6 +1,6 @@
 -- `inquiry`: refused for the intake, or the INQUIRY entry's answer.
 use mathlib.Core.Path.{_∙_, sym}
-use Rattle.sense.specs.Refusal.{rowOf, refusedSense}
+use Rattle.refusals.specs.Refusal.{rowOf, refusedSense}
 use Rattle.received.specs.Received.{inquiryOf}
 use borrow.Author.Needs.{needs}
 use Rattle.received.proofs.inquiry.Statement.{statement}

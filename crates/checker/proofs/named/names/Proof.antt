@@ -4,7 +4,7 @@ use Prim.Native.Nat.{_+_}
 use native.Mathlib.Omega.{arith}
 use lib.ListN.{length}
 use Rattle.identify.specs.Drive.{carriesName}
-use Rattle.page83.specs.Ports.{relativePart}
+use Rattle.port.specs.Ports.{relativePart}
 use Rattle.page83.specs.Helpers.{driveEnd}
 use Rattle.checker.specs.Ports.{portsIn, claimedPage}
 use Rattle.checker.proofs.Laws.{held-is, drive-ends, claimed-page, told-size}

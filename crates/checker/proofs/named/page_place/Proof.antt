@@ -4,9 +4,10 @@ use mathlib.Core.List.{_++_}
 use Prim.Native.Nat.{_+_, _-_}
 use native.Mathlib.Omega.{arith}
 use lib.ListN.{length}
-use Rattle.page83.specs.Ports.{relativePart, portsPart}
+use Rattle.port.specs.Ports.{relativePart, portsPart}
 use Rattle.page83.specs.Page83.{head, driveDescriptor}
-use Rattle.page83.specs.Helpers.{driveEnd, portsSize}
+use Rattle.port.specs.Helpers.{portsSize}
+use Rattle.page83.specs.Helpers.{driveEnd}
 use Rattle.page83.proofs.Laws.{length-drive}
 use Rattle.agreement.proofs.Laws.{reaches-within, differs-first, then-second}
 use Rattle.checker.specs.Ports.{addressIn}

@@ -3,7 +3,7 @@ use mathlib.Core.Path.{refl}
 use Prim.Native.Nat.{_+_}
 use native.Mathlib.Omega.{arith}
 use lib.ListN.{length}
-use Rattle.page83.specs.Ports.{relativePart, sasPart}
+use Rattle.port.specs.Ports.{relativePart, sasPart}
 use Rattle.agreement.proofs.Laws.{reaches-within, differs-first, then-second}
 use Rattle.checker.specs.Ports.{addressIn}
 use Rattle.checker.proofs.Laws.{relative-most}

@@ -4,7 +4,7 @@ use mathlib.Core.List.{List, [], _∷_}
 use Prim.Native.Nat.{ℕ, _+_, _/_, _%_}
 use native.Mathlib.Omega.{arith}
 use lib.ListN.{drop}
-use Rattle.page83.specs.Ports.{relativeHead, relativePart}
+use Rattle.port.specs.Ports.{relativeHead, relativePart}
 use Rattle.agreement.proofs.Laws.{reaches-within, differs-first, then-second, agreed-none}
 use borrow.Author.Needs.{needs}
 use Rattle.checker.proofs.named.relative_place.Statement.{statement}

@@ -1,6 +1,6 @@
 -- `relative_size`: eight bytes, or none.
 use mathlib.Core.Path.{sym, _∙_}
-use Rattle.page83.proofs.Laws.{length-relative}
+use Rattle.port.proofs.Laws.{length-relative}
 use borrow.Author.Needs.{needs}
 use Rattle.checker.proofs.named.relative_size.Statement.{statement}
 use Rattle.checker.proofs.named.relative_size.Tie as tie

@@ -4,7 +4,7 @@ use mathlib.Core.List.{List, [], _∷_}
 use Prim.Native.Nat.{ℕ, _+_}
 use native.Mathlib.Omega.{arith}
 use lib.ListN.{drop, replicate, length-drop}
-use Rattle.page83.specs.Ports.{sasPart}
+use Rattle.port.specs.Ports.{sasPart}
 use Rattle.agreement.proofs.Laws.{reaches-within, differs-first, then-second, agreed-none, agreed-front}
 use Rattle.checker.specs.Ports.{addressIn}
 use borrow.Author.Needs.{needs}

@@ -1,0 +1,3 @@
+-- The target ports that page 83h tells.
+pub mod Ports
+pub mod Helpers

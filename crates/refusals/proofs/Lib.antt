@@ -1,0 +1,2 @@
+-- The laws of the table, for the crates above.
+pub mod Table

@@ -1,0 +1,3 @@
+-- The table of refusals.
+pub mod Refusal
+pub mod Helpers
