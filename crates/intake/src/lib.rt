@@ -3,8 +3,9 @@
 ghost use mathlib.Core.Path.{_≡_};
 ghost use mathlib.Core.Bool.{false};
 ghost use mathlib.Core.List.{List};
-ghost use Prim.Native.Nat.{_+_, _%_};
+ghost use Prim.Native.Nat.{_+_, _%_, _≤_};
 ghost use lib.ListN.{length};
+ghost use Rattle.room.specs.Room.{Wrote};
 ghost use Rattle.checksum.specs.Checksum.{sumOf};
 ghost use Rattle.intake.specs.Intake.{empty as Intake·empty, wrongIntake, answer, outcome, taken, blockOf, offered as Intake·offered};
 
@@ -39,11 +40,20 @@ pub fn wrong(intake: Intake, store: usize) -> bool
     (store != 512) | (512 < intake.have)
 }
 
-// A sum modulo 256, counted on over more bytes.
-fn carried(sum: u16, bytes: &[u8]) -> u16
-    ensures { λ r. ⌜ r ≡ (sum + sumOf (now (bytes .entry))) % 256 ⌝ }
+// Stores bytes from a place on, and counts a sum modulo 256 on over them. Both in one loop, so that each byte is read once.
+fn keep(store: &mut [u8], at: usize, bytes: &[u8], before: u16) -> u16
+    requires { ⌜ at + length (now bytes) ≤ length (now store) ⌝ }
+    ensures { λ r. ⌜ Wrote (now (store .entry)) at (now (bytes .entry)) (now (store .exit)) × (r ≡ (before + sumOf (now (bytes .entry))) % 256) ⌝ }
 {
-    (sum % 256 + checksum::total(bytes) as u16) % 256
+    let mut sum = (before % 256) as u8;
+    let mut i = 0;
+    while i < bytes.len() {
+        let byte = bytes[i];
+        store[at + i] = byte;
+        sum = std::num::wrapping_add_u8(sum, byte);
+        i += 1;
+    }
+    sum as u16
 }
 
 // Takes a run: as many of its bytes as the intake lacks, behind those that it has.
@@ -61,8 +71,7 @@ pub fn take(intake: Intake, store: &mut [u8], run: &[u8]) -> Took
     let at = intake.have as usize;
     let used = rules::lesser(run.len(), 512 - at);
     let part = &run[..used];
-    let sum = carried(intake.sum, part);
-    room::put(store, at, part);
+    let sum = keep(store, at, part, intake.sum);
     let have = (at + used) as u16;
     let used = used as u16;
     Took {

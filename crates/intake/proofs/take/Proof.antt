@@ -33,11 +33,13 @@ lesser-requires c κs = search needs
 slice-aggregate-part : tie.Need-slice-aggregate-part
 slice-aggregate-part c = sym (length-take-le (c .before .lesser .result) (c .before .before .before .before .before .before .before .args .run .now) (omega (arith, c .before .lesser .ensures)))
 
-carried-requires : tie.Need-carried-requires
-carried-requires c κs = search needs
-
-put-requires : tie.Need-put-requires
-put-requires c κs = search needs
+keep-requires : tie.Need-keep-requires
+keep-requires c κs =
+    let a = c .before .before .before .before .before .before .before .before .args in
+    let r = right (a .intake .have) (length (a .store .now)) (sym (c .before .before .before .before .before .wrong .ensures) ∙ c .before .before .before .before .if1 .left) in
+    let least = c .before .before .lesser .ensures in
+    let count = length-take-le (c .before .before .lesser .result) (a .run .now) (omega (arith, least)) in
+    omega (arith, count, least, r .0, r .1)
 
 add-have : tie.Need-add-have
 add-have c = search needs
@@ -57,14 +59,15 @@ same-length c = search needs
 returns-2 : tie.Need-returns-2
 unfolding taken
 returns-2 c =
-    let a = c .before .before .before .before .before .before .before .before .before .before .before .before .before .args in
+    let a = c .before .before .before .before .before .before .before .before .before .before .before .before .args in
     let have = a .intake .have in
     let run = a .run .now in
-    let used = c .before .before .before .before .before .before .before .lesser .result in
-    let least = c .before .before .before .before .before .before .before .lesser .ensures in
+    let used = c .before .before .before .before .before .before .lesser .result in
+    let least = c .before .before .before .before .before .before .lesser .ensures in
     let part : take used run ≡ take (512 - have) run = rw least (cut-to-the-size (512 - have) run) in
     let count : length (take used run) ≡ used = length-take-le used run (omega (arith, least)) in
-    rw (sym (c .before .before .before .before .before .before .before .before .before .before .wrong .ensures) ∙ c .before .before .before .before .before .before .before .before .before .if1 .left, ← part, count, c .flag .ensures, c .before .before .before .put .ensures .leaves, c .before .before .before .before .before .carried .ensures)
+    let kept = c .before .before .before .keep .ensures in
+    rw (sym (c .before .before .before .before .before .before .before .before .before .wrong .ensures) ∙ c .before .before .before .before .before .before .before .before .if1 .left, ← part, count, c .flag .ensures, kept .0 .leaves, kept .1)
 
 pub take-spec : {M : Type 1} → statement M
 take-spec =
@@ -76,8 +79,7 @@ take-spec =
     sub-lesser
     lesser-requires
     slice-aggregate-part
-    carried-requires
-    put-requires
+    keep-requires
     add-have
     cast-have
     cast-used
