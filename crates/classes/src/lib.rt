@@ -23,10 +23,12 @@ fn highest(masked: u16, none: u8) -> u8
 pub fn ultra_dma(block: &[u8]) -> u8
     ensures { λ r. ⌜ r ≡ ultraDma (now (block .entry)) ⌝ }
 {
-    if identify::word(block, 53) / 4 % 2 == 1 {
-        return highest(identify::word(block, 88) & 0x7F, NO_MODE);
-    }
-    NO_MODE
+    let modes = if identify::word(block, 53) / 4 % 2 == 1 {
+        identify::word(block, 88) & 0x7F
+    } else {
+        0
+    };
+    highest(modes, NO_MODE)
 }
 
 // The highest major version, 1 to 14, or `NO_VERSION`.
@@ -34,8 +36,6 @@ pub fn major_version(block: &[u8]) -> u8
     ensures { λ r. ⌜ r ≡ majorVersion (now (block .entry)) ⌝ }
 {
     let word = identify::word(block, 80);
-    if word == 0xFFFF {
-        return NO_VERSION;
-    }
-    highest(word & 0x7FFE, NO_VERSION)
+    let versions = if word == 0xFFFF { 0 } else { word & 0x7FFE };
+    highest(versions, NO_VERSION)
 }

@@ -1,6 +1,6 @@
--- `ultra_dma`: word 53 bit 2 first, then the bits that the mask leaves.
-use mathlib.Core.Path.{sym, _∙_}
-use native.Mathlib.Omega.{arith}
+-- `ultra_dma`: the bits that the mask leaves where word 53 bit 2 is one, and else none.
+use mathlib.Core.Path.{sym}
+use mathlib.Core.Logic.{⊎-elim}
 use borrow.Author.Tests.{eq-eqb, ne-eqb}
 use Rattle.classes.specs.Classes.{ultraDma, noMode}
 use Rattle.classes.proofs.Masked.{of-the-mode}
@@ -19,11 +19,11 @@ highest-requires c κs = search needs
 
 returns : tie.Need-returns
 unfolding ultraDma
-returns c = rw (← c .before .before .before .word .ensures, eq-eqb _ _ (c .before .before .if1 .taken), ← c .before .word2 .ensures) (sym (of-the-mode _ noMode _ (c .highest .ensures)))
-
-returns-2 : tie.Need-returns-2
-unfolding ultraDma
-returns-2 c = rw (← c .before .word .ensures, ne-eqb _ _ (c .if1 .left))
+returns c =
+    ⊎-elim
+    (λ w. rw (← c .before .before .word .ensures, eq-eqb _ _ (w .0 .taken), ← w .1 .ensures) (sym (of-the-mode _ noMode _ (rw (w .2) at (c .highest .ensures)))))
+    (λ w. rw (← c .before .before .word .ensures, ne-eqb _ _ (w .0 .left)) (c .highest .ensures .of-zero (w .1)))
+    (c .before .if1 .came)
 
 pub ultra-dma-spec : {M : Type 1} → statement M
-ultra-dma-spec = tie.close (tie.spec word-requires word-requires-2 highest-requires returns returns-2)
+ultra-dma-spec = tie.close (tie.spec word-requires word-requires-2 highest-requires returns)
