@@ -8,10 +8,10 @@ use lib.Dec.{eqb}
 use lib.ListN.{length, getD, set, drop, drop-of-length-le}
 use lib.Seq.{drop-cons}
 use borrow.Author.Tests.{eqb-true, eqb-false, not-false}
-use Rattle.rules.proofs.First.{neither}
+use Rattle.rules.proofs.First.{neither, silent}
 use Rattle.checksum.specs.Checksum.{sumOf}
 use Rattle.tally.specs.declared.Census.{Census}
-use Rattle.tally.specs.Census.{uneven, closed, raised}
+use Rattle.tally.specs.Census.{uneven, closed, checks, refusalOf, raised}
 
 -- No count is more than their sum.
 pub at-most : (counts : List ℕ) (k : ℕ) → getD counts k 0 ≤ sumOf counts
@@ -34,7 +34,7 @@ pub record Open (c : Census) : Type 0 where
   pub modes : sumOf (c .udma) ≡ c .blocks
   pub versions : sumOf (c .version) ≡ c .blocks
 
-pub open-census : (c : Census) → closed c ≡ false → Open c
+open-census : (c : Census) → closed c ≡ false → Open c
 unfolding uneven
 open-census c e =
     let outer = neither (eqb (c .blocks) 65535) (uneven c) e in
@@ -46,6 +46,13 @@ open-census c e =
       modes = eqb-true _ _ (not-false _ (one .1));
       versions = eqb-true _ _ (not-false _ (two .1));
     }
+
+-- A block that no check refuses has 512 bytes, and the census is one that it can be counted in.
+pub accepted : {number : ℕ} (c : Census) (block : List ℕ) → number ≡ refusalOf c block → number ≡ 0 → (length block ≡ 512) × Open c
+unfolding refusalOf
+accepted c block e z =
+    let quiet = silent (checks c block) refl (sym e ∙ z) in
+    (eqb-true _ _ (not-false _ (quiet .0)), open-census c (quiet .1 .0))
 
 -- A loop that adds counts up, before its turn i: what is left to add takes the sum to where it is to be.
 pub record Adding (counts : List ℕ) (sum i : ℕ) : Type 0 where

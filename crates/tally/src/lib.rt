@@ -1,12 +1,11 @@
 // Tally: the census of a fleet's drives, which counts IDENTIFY blocks by their classes as they are fed one at a time. The rule stands
 // in specs/Census; specs/Fleet and proofs/Fleet have what it says of many blocks.
 ghost use mathlib.Core.Path.{_≡_};
-ghost use mathlib.Core.Bool.{Bool, false};
 ghost use mathlib.Core.List.{List};
 ghost use Prim.Native.Nat.{_≤_};
 ghost use lib.ListN.{length};
 ghost use Rattle.checksum.specs.Checksum.{sumOf};
-ghost use Rattle.tally.specs.Census.{empty as Census·empty, uneven as Census·uneven, closed as Census·closed, refusalOf, counted as Census·counted, feed as Census·feed};
+ghost use Rattle.tally.specs.Census.{empty as Census·empty, uneven as Census·uneven, closed as Census·closed, refusalOf, feed as Census·feed};
 
 // How many blocks were fed; how many of them carry a name and how many do not; and how many are of each class: `udma` has Ultra DMA
 // modes 0 to 6 and none behind them, `version` the major versions 1 to 14 and none behind them.
@@ -94,40 +93,24 @@ fn refusal(census: Census, block: &[u8]) -> u8
     0
 }
 
-// The census with a block counted in its three classes. A class has no more blocks than the census, so that no count wraps.
-fn counted(census: Census, block: &[u8]) -> Census
-    requires { ⌜ (length (now block) ≡ 512) × (Census·closed census ≡ false) ⌝ }
-    ensures { λ r. ⌜ r ≡ Census·counted census (now (block .entry)) ⌝ }
-{
-    let named = identify::carries_name(block);
-    let mode = classes::ultra_dma(block) as usize;
-    let version = classes::major_version(block) as usize - 1;
-    let mut modes = census.udma;
-    modes[mode] += 1;
-    let mut versions = census.version;
-    versions[version] += 1;
-    Census {
-        blocks: census.blocks + 1,
-        named: census.named + rules::flag(named) as u16,
-        unnamed: census.unnamed + rules::flag(!named) as u16,
-        udma: modes,
-        version: versions,
-    }
-}
-
-// Feeds a block to a census.
-pub fn feed(census: Census, block: &[u8]) -> Fed
+// Feeds a block to a census, which counts it in its three classes. A class has no more blocks than the census, so that no count wraps.
+// The counts are raised where they lie, and the census goes back under a name of its own, so that it is moved as a whole.
+pub fn feed(mut census: Census, block: &[u8]) -> Fed
     ensures { λ r. ⌜ r ≡ Census·feed census (now (block .entry)) ⌝ }
 {
     let number = refusal(census, block);
-    if number != 0 {
-        return Fed {
-            next: census,
-            number,
-        };
+    if number == 0 {
+        census.blocks += 1;
+        if identify::carries_name(block) {
+            census.named += 1;
+        } else {
+            census.unnamed += 1;
+        }
+        let mode = classes::ultra_dma(block) as usize;
+        census.udma[mode] += 1;
+        let version = classes::major_version(block) as usize - 1;
+        census.version[version] += 1;
     }
-    Fed {
-        next: counted(census, block),
-        number: 0,
-    }
+    let next = census;
+    Fed { next, number }
 }
