@@ -1,5 +1,4 @@
 -- The laws of the pending record, and of functions over it as it is lent.
-mod Laws
 pub mod Over
 pub mod Thin
 pub mod Unmoved

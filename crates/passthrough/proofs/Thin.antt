@@ -7,6 +7,7 @@
 --     lends                what the step asks, from `Rest` and `Tokens`
 --     back                 what the step hands back: its result's relation, the tokens, and the last values with the clause
 --     stores-if            a value is stored where a test holds; where it does not, the cell has that value already
+--     forks                an arm that returns where a test holds, and what comes after it where it does not
 --     exits                the walk's end, from what `closed` leaves
 --     thin-meets           the walk is taken to the contract
 -- Assumes `Given`.
@@ -23,11 +24,11 @@ use mir.Val.{Val, vbool, vptr, WT, hasTy}
 use base.Logic.{SProp, ent, sep, emp, via, fst∗}
 use base.Stored.{Gv}
 use base.Fml.{GName, Lft, Share, Fml, fat, ftrue, fsep, flft, fobs, fauth, fbor, fobor}
-use prog.Wp.{Heap, Env, Spot, Calls, Loops, WpFn, Tables}
+use prog.Wp.{Heap, Env, Spot, afterSeq, Calls, Loops, Wp, WpFn, Tables}
 use ghost.Atoms.{Atoms, sem}
 use contract.Monad.{fact}
 use contract.Lifetimes.{Lfts, Shares, toks}
-use types.Kit.{Given, Goal, Post, runs, nth, del, put, pull, fill, Soaks, Seq, Step, step, Item, mean, ‵, raw, ⋆, _⊛_, some, later, _$_, _∵_, !, qed, move, drop, split, join, pick, fsplit, fjoin, fjoin3, feqI, frame, await, use0, recast, suffices, done}
+use types.Kit.{Given, Goal, Post, anyQ, post, runs, nth, del, put, pull, fill, Soaks, Seq, Step, step, Item, mean, ‵, raw, ⋆, _⊛_, some, later, _$_, _∵_, !, qed, move, drop, split, join, pick, fsplit, fjoin, fjoin3, feqI, frame, await, use0, recast, suffices, done}
 use types.Run.{Opd, Rv, Finds, first, branches, assigns-last, store-raw, skips}
 use types.SemTy.{Body}
 use sound.WpLaws.{WpFn-mono}
@@ -108,6 +109,10 @@ module _ {M : Type 1} {𝓤 : URA M} {H : Heap 𝓤} {A : Atoms 𝓤} {K : Type 
       let cell : Val → Item 𝓤 = λ u. ‵ (fat fullShare (rawTy (sp .0)) (sp .1) (sp .2) u) in
       step (λ s. first t $ branches t o (λ z. assigns-last t r f (store-raw t n e typed) $ record { prf = s .prf })
       (λ z. skips t $ record { prf = via 𝓤 _ (subst (λ (j : Item 𝓤). ent 𝓤 (⋆ 𝓤 H A Γ) (sep 𝓤 (mean 𝓤 H A j) (⋆ 𝓤 H A (del 𝓤 H A n Γ)))) (e ∙ ap cell (same z)) (pull 𝓤 H A n Γ)) (via 𝓤 _ (fill 𝓤 H A n (cell v) Γ) (s .prf)) }))
+
+  pub forks : K → {c : Operand} {a rest : Stmt} {y : Bool} → Opd K W Γ E c (vbool y)
+      → (Holds y → Seq K W Γ (runs C Λ E a (anyQ (afterSeq 𝓤 H (Wp 𝓤 H C Λ E rest (post 𝓤 H q)) (post 𝓤 H q))))) → (Holds (not y) → Seq K W Γ (runs C Λ E rest q)) → Seq K W Γ (runs C Λ E (seq (cond c a skip) rest) q)
+  forks t o held failed = first t $ branches t o held (λ z. skips t $ record { prf = failed z .prf })
 
 module _ {M : Type 1} (𝓤 : URA M) (H : Heap 𝓤) (A : Atoms 𝓤) (W : Given 𝓤 H A) where
   pub lends : (h : Pending) (Rest : Fml) (Tokens : Item 𝓤) → Is T.the-row h (mach h ∷ []) → ent 𝓤 (⋆ 𝓤 H A (‵ Rest ∷ Tokens ∷ [])) (sep 𝓤 (sep 𝓤 (mean 𝓤 H A Tokens) (sem 𝓤 H A (fsep (T.the-row .own h (mach h ∷ [])) Rest))) (emp 𝓤))

@@ -1,5 +1,5 @@
 -- A step that leaves the record's state leaves the record: what it moves, it moves from nothing to an order, from an order to one with a
--- reset over it, or to nothing.
+-- reset over it, or to nothing. And a command that leaves it makes no order.
 use mathlib.Core.Path.{_≡_, refl, sym, ap, _∙_}
 use mathlib.Core.Bool.{Bool, true, false, cond, not, _&&_, true≢false}
 use mathlib.Core.List.{List}
@@ -37,18 +37,22 @@ module _ (p : Pending) (command registers block : List ℕ) (declared edition fo
       let over = taken-over p command registers block declared edition (length sense) e f n .1 in
       true≢false (ap (λ (s : ℕ). eqb s 2) (rw n at h) ∙ neither (resetOver p) (not (nothingPending p) && reset (p .order .protocol)) over .0)
 
+  -- What comes back of a command that leaves the record.
+  abbrev pub unmoved : Submitted → Submitted
+  unmoved r = record { next = p; taken = Submit.noneTaken (r .taken .number) (r .taken .status) }
+
   unmoved-by : (b told : Bool) → eqb refusal 0 ≡ b → eqb (protocol command) 15 ≡ told
       → let o = cond b (cond told (Submit.reported p registers form sense) (Submit.taken p (Submit.made command block declared edition) sense)) (Submit.refused p form refusal sense) in
-      o .submitted .next .state ≡ p .state → o .submitted .next ≡ p
+      o .submitted .next .state ≡ p .state → o .submitted ≡ unmoved (o .submitted)
   unmoved-by false told e f h = refl
   unmoved-by true true e f h = refl
   unmoved-by true false e f h = absurd (moved (nothingPending p) refl (eqb-true refusal 0 e) f h)
 
-  pub submit-unmoved : {r : Submitted} {s : List ℕ} → Submit.outcome r s ≡ Submit.submit p command registers block declared edition form sense → r .next .state ≡ p .state → r .next ≡ p
+  pub submit-unmoved : {r : Submitted} {s : List ℕ} → Submit.outcome r s ≡ Submit.submit p command registers block declared edition form sense → r .next .state ≡ p .state → r ≡ unmoved r
   unfolding Submit.submit
   submit-unmoved e h =
-      let n = ap (λ (o : Submit.Outcome). o .submitted .next) e in
-      n ∙ unmoved-by (eqb refusal 0) (eqb (protocol command) 15) refl refl (ap (λ (q : Pending). q .state) (sym n) ∙ h)
+      let n = ap (λ (o : Submit.Outcome). o .submitted) e in
+      n ∙ unmoved-by (eqb refusal 0) (eqb (protocol command) 15) refl refl (ap (λ (q : Submitted). q .next .state) (sym n) ∙ h) ∙ ap unmoved (sym n)
 
 module _ (p : Pending) (registers : List ℕ) (form : ℕ) (sense : List ℕ) where
   abbrev ending : ℕ

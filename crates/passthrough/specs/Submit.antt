@@ -14,6 +14,7 @@ use Rattle.passthrough_order.specs.Order.{noOrder, orderOf}
 use Rattle.passthrough_checks.specs.Checks as Check
 use Rattle.passthrough.specs.declared.Pending.{Pending}
 use Rattle.passthrough.specs.declared.Submitted.{Submitted}
+use Rattle.passthrough.specs.declared.Taken.{Taken}
 use Rattle.passthrough.specs.Record.{nothingPending, resetPending, taking}
 
 -- The edition by which a command is read: 2 names the later one, and every other number the first.
@@ -36,6 +37,10 @@ pub record Outcome : Type 0 where
 
 abbrev pub outcome : Submitted → List ℕ → Outcome
 outcome submitted sense = record { submitted = submitted; sense = sense }
+
+-- What comes back where no order is made.
+abbrev pub noneTaken : ℕ → ℕ → Taken
+noneTaken number status = record { number = number; status = status; order = noOrder }
 
 abbrev pub answer : Pending → ℕ → ℕ → Order → Submitted
 answer next number status order = record { next = next; taken = record { number = number; status = status; order = order } }

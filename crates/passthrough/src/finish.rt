@@ -1,24 +1,11 @@
-// The end of an order: its checks, its status and what its sense data tell; and the order that is lost with it.
+// The end of an order: its status and what its sense data tell; and the order that is lost with it.
 use crate::Pending;
 use crate::held;
 use passthrough_order::Order;
 ghost use mathlib.Core.Path.{_≡_};
 ghost use Prim.Native.Nat.{_≤_};
 ghost use lib.ListN.{length};
-ghost use Rattle.passthrough.specs.Complete.{refusalOf, failed as Complete·failed, endStatus, endSense, lost as Complete·lost, lostProtocol};
-
-// The number of the first check that applies, and 0 where none does.
-pub fn fault(pending: Pending, registers: &[u8], sense: usize) -> u8
-    ensures { λ r. ⌜ r ≡ refusalOf pending (now (registers .entry)) sense ⌝ }
-{
-    if passthrough_checks::wrong_size(registers.len(), sense) {
-        return 1;
-    }
-    if pending.state == 0 {
-        return 15;
-    }
-    0
-}
+ghost use Rattle.passthrough.specs.Complete.{failed as Complete·failed, endStatus, endSense, lost as Complete·lost, lostProtocol};
 
 // 1 where an order is lost, since a reset is over it, and else 0.
 pub fn lost(pending: Pending) -> u8

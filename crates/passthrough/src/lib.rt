@@ -10,7 +10,7 @@ use passthrough_order::read;
 ghost use mathlib.Core.Path.{_≡_};
 ghost use Rattle.passthrough_order.specs.Order.{noOrder};
 ghost use Rattle.passthrough.specs.Record.{empty as Record·empty};
-ghost use Rattle.passthrough.specs.Submit.{outcome as Submit·outcome, answer as Submit·answer, submit as Submit·submit};
+ghost use Rattle.passthrough.specs.Submit.{outcome as Submit·outcome, noneTaken, answer as Submit·answer, submit as Submit·submit};
 ghost use Rattle.passthrough.specs.Complete.{outcome as Complete·outcome, answer as Complete·answer, complete as Complete·complete};
 
 // The editions by which a command may be read; every number but the later's names the first.
@@ -56,6 +56,17 @@ pub struct Completed {
     pub ended: Ended,
 }
 
+// What comes back of a command that makes no order.
+pub fn none_taken(number: u8, status: u8) -> Taken
+    ensures { λ r. ⌜ r ≡ noneTaken number status ⌝ }
+{
+    Taken {
+        number,
+        status,
+        order: passthrough_order::no_order(),
+    }
+}
+
 // The answer to a command.
 fn answer(next: Pending, number: u8, status: u8, order: Order) -> Submitted
     ensures { λ r. ⌜ r ≡ Submit·answer next number status order ⌝ }
@@ -74,7 +85,10 @@ fn answer(next: Pending, number: u8, status: u8, order: Order) -> Submitted
 fn without_order(next: Pending, number: u8, status: u8) -> Submitted
     ensures { λ r. ⌜ r ≡ Submit·answer next number status noOrder ⌝ }
 {
-    answer(next, number, status, passthrough_order::no_order())
+    Submitted {
+        next,
+        taken: none_taken(number, status),
+    }
 }
 
 // The answer to a completion.
@@ -135,16 +149,24 @@ impl Pending {
             sense::report(sense, form, 0x01, 0x00, 0x1D, false, registers);
             return without_order(self, 0, refusals::CHECK_CONDITION);
         }
+        // Of a reset no other field is read.
+        if read::reset(protocol) {
+            let order = read::reset_order(command);
+            return answer(held::taking(self, order), 0, refusals::NONE, order);
+        }
         let lacking = length::lacking(later, block, command);
         let sent = sent::read(command);
         let size = length::block_size(later, block, command);
         let bytes = length::in_bytes(size, command, sent, declared);
-        let late = passthrough_checks::length_fault(protocol, lacking, bytes.0, declared);
+        // With the checks above, T_LENGTH says by itself whether there are data.
+        let has_data = passthrough_fields::t_length(command) != 0;
+        let late = passthrough_checks::length_fault(has_data, lacking, bytes.0, declared);
         if late != 0 {
             return without_order(self, late, refusals::refuse(sense, form, late));
         }
-        let order = read::order(command, sent, bytes.0);
-        answer(held::taking(self, order), 0, refusals::NONE, order)
+        let order = read::command_order(command, sent, bytes.0);
+        // It waits for whatever is pending, so that nothing is.
+        answer(held::holding(order), 0, refusals::NONE, order)
     }
 
     // The end of the order that is pending, or of the reset over it, with the registers that the drive left; an order under a reset is lost.
@@ -152,9 +174,11 @@ impl Pending {
         ensures { λ r. ⌜ Complete·outcome r (now (sense .exit)) ≡ Complete·complete self (now (registers .entry)) form (now (sense .entry)) ⌝ }
     {
         let empty = Pending::empty();
-        let number = finish::fault(self, registers, sense.len());
-        if number != 0 {
-            return end(self, number, refusals::refuse(sense, form, number), 0, 0);
+        if passthrough_checks::wrong_size(registers.len(), sense.len()) {
+            return end(self, 1, refusals::refuse(sense, form, 1), 0, 0);
+        }
+        if self.state == 0 {
+            return end(self, 15, refusals::refuse(sense, form, 15), 0, 0);
         }
         let lost = finish::lost(self);
         let lost_protocol = finish::lost_protocol(self);

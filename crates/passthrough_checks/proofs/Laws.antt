@@ -14,7 +14,7 @@ use Rattle.rules.proofs.Below.{all-below, at}
 use Rattle.rules.specs.First.{Check, first}
 use Rattle.rules.proofs.First.{Silent, silent, neither, first-answers, second-answers}
 use Rattle.passthrough_fields.specs.Fields.{long, longest, size, protocol, tLength, byteBlock, featuresNumber, countNumber}
-use Rattle.passthrough_fields.specs.Helpers.{Whole}
+use Rattle.passthrough_fields.specs.Helpers.{Whole, Lent}
 use Rattle.passthrough_fields.specs.Length.{blockSize, lacking, bytesIn, lengthOf}
 use Rattle.passthrough_order.specs.Order.{withoutData, withData, reset}
 use Rattle.passthrough_checks.specs.Checks.{wrongSize, wrongProtocol, wrongLength, refusalOf}
@@ -62,7 +62,7 @@ sized registers sense e =
 pub whole-form : (later : Bool) (command : List ℕ) → first (formChecks later command) ≡ 0 → Whole command
 whole-form later command e = whole command (silent (formChecks later command) refl e .1 .0)
 
--- A command that no check but those of the length refuses came with all its registers, and is whole.
+-- A command that no check but those of the length refuses came with all its registers and a block or none, and is whole.
 module _ (pending resetPending later : Bool) (command : List ℕ) (registers : ℕ) (block : List ℕ) (sense : ℕ) (e : earlyRefusal pending resetPending later command registers block sense ≡ 0) where
   quiet : Silent (commandChecks pending resetPending later command registers block sense)
   unfolding earlyRefusal
@@ -70,6 +70,9 @@ module _ (pending resetPending later : Bool) (command : List ℕ) (registers : �
 
   pub taken-sized : (registers ≡ 11) × (22 ≤ sense)
   taken-sized = sized registers sense (quiet .0)
+
+  pub taken-lent : Lent later block
+  taken-lent = quiet .1 .0
 
   pub taken-whole : Whole command
   taken-whole = whole command (quiet .1 .1 .1 .1 .1 .0)
@@ -79,6 +82,21 @@ served : (p : ℕ) → p < 16 → wrongProtocol p ≡ false → eqb p 15 ≡ fal
 unfolding all-below
 served p h w f r =
     rw (w, f, r) at (at (λ k. wrongProtocol k || eqb k 15 || reset k || (withData k || withoutData k)) 16 refl p h)
+
+-- So T_LENGTH, which fits the protocol, says by itself whether there are data.
+by-length : (some none zero : Bool) → (some || none) ≡ true → (none && not zero || some && zero) ≡ false → some ≡ not zero
+by-length true none false s w = refl
+by-length true true true s w = absurd (true≢false w)
+by-length true false true s w = absurd (true≢false w)
+by-length false true true s w = refl
+by-length false true false s w = absurd (true≢false w)
+by-length false false zero s w = absurd (true≢false (sym s))
+
+pub data-by-length : (pending resetPending later : Bool) (command : List ℕ) (registers : ℕ) (block : List ℕ) (sense : ℕ) → earlyRefusal pending resetPending later command registers block sense ≡ 0 → eqb (protocol command) 15 ≡ false → reset (protocol command) ≡ false → withData (protocol command) ≡ not (eqb (tLength command) 0)
+unfolding earlyRefusal
+data-by-length pending resetPending later command registers block sense e f r =
+    let q = silent (commandChecks pending resetPending later command registers block sense) refl e .1 .1 .1 .1 .1 .1 .1 .1 in
+    by-length _ _ (eqb (tLength command) 0) (served (protocol command) (omega arith) (q .0) f r) (q .1 .1 .0)
 
 -- Without data T_LENGTH is 0, and so is the length.
 none-counted : (p size : ℕ) (command : List ℕ) (declared : ℕ) → withData p ≡ false → withoutData p ≡ true → wrongLength p (tLength command) ≡ false → lengthOf size command declared ≡ 0
@@ -126,9 +144,19 @@ module _ (pending resetPending later : Bool) (command : List ℕ) (registers : �
   unfolding refusalOf earlyRefusal
   refused-late = second-answers early late refl
 
--- Without data no length is refused: so not of protocol 15.
+-- Without data no length is refused: so not of protocol 15, and not of a reset.
 no-data : (p : ℕ) (lack : Bool) (bytes declared : ℕ) → withData p ≡ false → first (lengthChecks p lack bytes declared) ≡ 0
 no-data p lack bytes declared h = rw h
 
 pub none-for-15 : {p : ℕ} (lack : Bool) (bytes declared : ℕ) → p ≡ 15 → first (lengthChecks p lack bytes declared) ≡ 0
 none-for-15 lack bytes declared e = rw e (no-data 15 lack bytes declared refl)
+
+reset-without-data : (p : ℕ) → reset p ≡ true → withData p ≡ false
+reset-without-data p r = by (eqb p 0) refl r
+  where
+    by : (b : Bool) → eqb p 0 ≡ b → (b || eqb p 1) ≡ true → withData p ≡ false
+    by true z h = rw (eqb-true p 0 z)
+    by false z h = rw (eqb-true p 1 h)
+
+pub none-for-reset : (p : ℕ) (lack : Bool) (bytes declared : ℕ) → reset p ≡ true → first (lengthChecks p lack bytes declared) ≡ 0
+none-for-reset p lack bytes declared r = no-data p lack bytes declared (reset-without-data p r)

@@ -1,5 +1,5 @@
 -- No rules: the checks in the parts in which the code runs them.
-use mathlib.Core.Bool.{Bool, not}
+use mathlib.Core.Bool.{Bool, not, _&&_}
 use mathlib.Core.List.{List, [], _∷_, _++_}
 use Prim.Native.Nat.{ℕ}
 use lib.Dec.{eqb, ltb}
@@ -45,7 +45,15 @@ fieldChecks pending resetPending p tLength dir =
     ∷ (12 when wrongDirection p dir)
     ∷ []
 
--- 6, 13 and 14, which look at the length.
+-- 6, 13 and 14, which look at the length, of a command that has data or has none.
+abbrev pub dataChecks : Bool → Bool → ℕ → ℕ → List Check
+dataChecks hasData lack bytes declared =
+    (6 when hasData && lack)
+    ∷ (13 when hasData && eqb bytes 0)
+    ∷ (14 when hasData && ltb declared bytes)
+    ∷ []
+
+-- The same by its protocol.
 abbrev pub lengthChecks : ℕ → Bool → ℕ → ℕ → List Check
 lengthChecks p lack bytes declared =
     (6 when noBlock p lack)

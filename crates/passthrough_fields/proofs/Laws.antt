@@ -1,9 +1,13 @@
 -- Laws that the functions' proofs share.
 use mathlib.Core.Path.{_≡_, refl}
-use mathlib.Core.Bool.{Bool, true, false, cond}
+use mathlib.Core.Bool.{Bool, true, false, cond, not, _&&_, _||_, true≢false}
+use mathlib.Core.List.{List, [], _∷_}
 use Prim.Native.Nat.{ℕ, _*_, _^_, _≤_, _<_}
-use lib.Dec.{eqb}
+use lib.Dec.{eqb, eqb·suc-zero}
+use lib.ListN.{length}
 use borrow.Author.Tests.{eq-eqb, ne-eqb}
+use Rattle.identify.specs.Sector.{sectorSize}
+use Rattle.passthrough_fields.specs.Helpers.{Lent}
 use Rattle.passthrough_fields.specs.Length.{bytesIn}
 use lib.Pow.{pow-pos}
 use native.Mathlib.Nat.{le-of-lt, lt-of-le-of-lt, mul-le-mul-right, mul-lt-mul-of-pos-left}
@@ -25,3 +29,11 @@ counts c size n r e f h = rw (← e, ← f) h
 
 -- For `search`: each answer of a function that asks so, from the tests that led there.
 pub ruleset by-number = (found, passed, counts)
+
+-- Without a block of 512 bytes sectors count 512 each: a lent block has that size or is none.
+pub no-block : (later sectors : Bool) (block : List ℕ) → Lent later block → (later && sectors && eqb (length block) 512) ≡ false → 512 ≡ cond (later && sectors) (sectorSize block) 512
+unfolding sectorSize
+no-block false sectors block l e = refl
+no-block true false block l e = refl
+no-block true true [] l e = refl
+no-block true true (byte ∷ block) l e = absurd (true≢false (rw (e, eqb·suc-zero (length block)) at l))

@@ -3,7 +3,7 @@
 use crate::sent::Sent;
 ghost use mathlib.Core.Path.{_≡_};
 ghost use Prim.Native.Nat.{_<_, _*_, _^_};
-ghost use Rattle.passthrough_fields.specs.Helpers.{Whole, sentOf};
+ghost use Rattle.passthrough_fields.specs.Helpers.{Whole, Lent, sentOf};
 ghost use Rattle.passthrough_fields.specs.Length.{bytesIn, blockSize, inSectors, lacking as Length·lacking, lengthOf};
 
 // A count of blocks.
@@ -22,14 +22,14 @@ impl Blocks {
     }
 }
 
-// The size of the blocks that a command counts.
+// The size of the blocks that a command counts. The sectors' is read from a part of the block whose length the compiler knows.
 pub fn block_size(later: bool, block: &[u8], command: &[u8]) -> Bytes
-    requires { ⌜ Whole (now command) ⌝ }
+    requires { ⌜ Whole (now command) × Lent later (now block) ⌝ }
     ensures size { λ r. ⌜ r .0 ≡ blockSize later (now (block .entry)) (now (command .entry)) ⌝ }
     ensures width { λ r. ⌜ r .0 < 2 ^ 34 ⌝ }
 {
-    if later & crate::t_type(command) {
-        return Bytes(identify::sector_size(block));
+    if later & crate::t_type(command) & (block.len() == 512) {
+        return Bytes(identify::sector_size(&block[..512]));
     }
     Bytes(512)
 }

@@ -6,8 +6,9 @@ ghost use lib.ListN.{length, getD};
 ghost use Rattle.passthrough_fields.specs.Fields.{long as Fields·long, longest as Fields·longest, auxiliary as Fields·auxiliary};
 ghost use Rattle.passthrough_fields.specs.Helpers.{Whole, sentOf};
 
-// Five registers, the auxiliary number, device and command.
+// EXTEND, the auxiliary number, five registers, device and command.
 pub struct Sent {
+    pub extend: bool,
     pub auxiliary: u32,
     pub features: u16,
     pub count: u16,
@@ -34,6 +35,7 @@ fn of_short(command: &[u8]) -> Sent
     ensures { λ r. ⌜ r ≡ sentOf (now (command .entry)) ⌝ }
 {
     Sent {
+        extend: false,
         auxiliary: 0,
         features: number(false, 0, command[3]),
         count: number(false, 0, command[4]),
@@ -52,6 +54,7 @@ fn of_long(command: &[u8]) -> Sent
 {
     let extend = crate::extend(command);
     Sent {
+        extend,
         auxiliary: 0,
         features: number(extend, command[3], command[4]),
         count: number(extend, command[5], command[6]),
@@ -80,6 +83,7 @@ fn of_longest(command: &[u8]) -> Sent
 {
     let extend = crate::extend(command);
     Sent {
+        extend,
         auxiliary: auxiliary(command),
         features: number(extend, command[20], command[21]),
         count: number(extend, command[22], command[23]),

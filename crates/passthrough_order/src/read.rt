@@ -3,10 +3,8 @@ use crate::Order;
 use passthrough_fields::sent::Sent;
 ghost use mathlib.Core.Path.{_≡_};
 ghost use Prim.Native.Nat.{_<_, _^_};
-ghost use mathlib.Core.Bool.{false};
-ghost use Rattle.passthrough_fields.specs.Fields.{protocol};
 ghost use Rattle.passthrough_fields.specs.Helpers.{Whole, sentOf};
-ghost use Rattle.passthrough_order.specs.Order.{withoutData, fromDrive, toDrive, withData, reset as Order·reset, directionOf, quietSeconds, resetOrder, commandOrder, orderOf};
+ghost use Rattle.passthrough_order.specs.Order.{withoutData, fromDrive, toDrive, withData, reset as Order·reset, directionOf, quietSeconds, resetOrder, commandOrder};
 
 // Protocols by number: without data, from the drive, to the drive, and all that have data.
 pub fn without_data(protocol: u8) -> bool
@@ -65,7 +63,7 @@ fn quiet_seconds(off_line: u8) -> u16
 }
 
 // The order of a reset: protocol and quiet seconds, and nothing else of the command.
-fn reset_order(command: &[u8]) -> Order
+pub fn reset_order(command: &[u8]) -> Order
     requires { ⌜ Whole (now command) ⌝ }
     ensures { λ r. ⌜ r ≡ resetOrder (now (command .entry)) ⌝ }
 {
@@ -89,7 +87,7 @@ fn reset_order(command: &[u8]) -> Order
 }
 
 // The order of any other command, with what it sends and the length of its data.
-fn command_order(command: &[u8], sent: Sent, length: u64) -> Order
+pub fn command_order(command: &[u8], sent: Sent, length: u64) -> Order
     requires { ⌜ Whole (now command) × (sent ≡ sentOf (now command)) × (length < 2 ^ 32) ⌝ }
     ensures { λ r. ⌜ r ≡ commandOrder (now (command .entry)) length ⌝ }
 {
@@ -110,18 +108,7 @@ fn command_order(command: &[u8], sent: Sent, length: u64) -> Order
         command: opcode,
         protocol,
         ck_cond: rules::flag(passthrough_fields::ck_cond(command)),
-        extend: rules::flag(passthrough_fields::extend(command)),
+        extend: rules::flag(sent.extend),
         direction: direction(protocol, from),
     }
-}
-
-// The order that a command makes, with what it sends and the length of its data, which 32 bits hold but for a reset, which has none.
-pub fn order(command: &[u8], sent: Sent, length: u64) -> Order
-    requires { ⌜ Whole (now command) × (sent ≡ sentOf (now command)) × (Order·reset (protocol (now command)) ≡ false → length < 2 ^ 32) ⌝ }
-    ensures { λ r. ⌜ r ≡ orderOf (now (command .entry)) length ⌝ }
-{
-    if reset(passthrough_fields::protocol(command)) {
-        return reset_order(command);
-    }
-    command_order(command, sent, length)
 }

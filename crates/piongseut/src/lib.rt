@@ -72,7 +72,8 @@ pub extern "C" fn piongseut_record_empty() -> Pending
 }
 
 // Submits a pass-through command, and updates the record that is lent. A step that leaves the record's state leaves the record, so
-// that it is not written then; and since it is not, only its state has to be read.
+// that it is not written then; and since it is not, only its state has to be read. Such a step makes no order: its answer is made
+// apart, so that no field of an order is looked at for it.
 #[no_mangle]
 pub extern "C" fn piongseut_submit(
     state: &mut Pending,
@@ -90,8 +91,9 @@ pub extern "C" fn piongseut_submit(
     let submitted = p.submit(command, registers, block, declared, edition, form, sense);
     if submitted.next.state != p.state {
         *state = submitted.next;
+        return submitted.taken;
     }
-    submitted.taken
+    passthrough::none_taken(submitted.taken.number, submitted.taken.status)
 }
 
 // Ends the order that the record holds, and updates the record that is lent, as `piongseut_submit` does.

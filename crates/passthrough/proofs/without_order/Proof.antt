@@ -1,16 +1,13 @@
--- `without_order`: the order that is zero.
+-- `without_order`: the record as it is, and no order.
 use borrow.Author.Needs.{needs}
 use Rattle.passthrough.proofs.without_order.Statement.{statement}
 use Rattle.passthrough.proofs.without_order.Tie as tie
 
-no-order-requires : tie.Need-no-order-requires
-no-order-requires c κs = search needs
-
-answer-requires : tie.Need-answer-requires
-answer-requires c κs = search needs
+none-taken-requires : tie.Need-none-taken-requires
+none-taken-requires c κs = search needs
 
 returns : tie.Need-returns
-returns c = rw (c .answer .ensures, c .before .no-order .ensures)
+returns c = rw (c .none-taken .ensures)
 
 pub without-order-spec : {M : Type 1} → statement M
-without-order-spec = tie.close (tie.spec no-order-requires answer-requires returns)
+without-order-spec = tie.close (tie.spec none-taken-requires returns)

@@ -4,14 +4,14 @@ use borrow.Author.Needs.{needs}
 use Rattle.passthrough.proofs.held.taking.Statement.{statement}
 use Rattle.passthrough.proofs.held.taking.Tie as tie
 
-no-order-requires : tie.Need-no-order-requires
-no-order-requires c κs = search needs
+holding-requires : tie.Need-holding-requires
+holding-requires c κs = search needs
 
 returns : tie.Need-returns
-returns c = rw (c .no-order .ensures, eq-eqb _ _ (c .before .if1 .taken))
+returns c = rw (c .holding .ensures, eq-eqb _ _ (c .before .if1 .taken))
 
 returns-2 : tie.Need-returns-2
 returns-2 c = rw (ne-eqb _ _ (c .if1 .left))
 
 pub taking-spec : {M : Type 1} → statement M
-taking-spec = tie.close (tie.spec no-order-requires returns returns-2)
+taking-spec = tie.close (tie.spec holding-requires returns returns-2)

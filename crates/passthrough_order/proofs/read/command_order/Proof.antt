@@ -30,9 +30,6 @@ ck-cond-requires c κs = search needs
 flag-requires : tie.Need-flag-requires
 flag-requires c κs = search needs
 
-extend-requires : tie.Need-extend-requires
-extend-requires c κs = search needs
-
 flag-requires-2 : tie.Need-flag-requires-2
 flag-requires-2 c κs = search needs
 
@@ -40,7 +37,7 @@ direction-requires : tie.Need-direction-requires
 direction-requires c κs = search needs
 
 returns : tie.Need-returns
-returns c = rw (c .before .before .before .before .before .before .before .before .before .before .before .before .pre .1, c .direction .ensures, c .before .flag2 .ensures, c .before .before .extend .ensures, c .before .before .before .flag .ensures, c .before .before .before .before .ck-cond .ensures, c .before .before .before .before .before .power .ensures, c .before .before .before .before .before .before .multiple-count .ensures, c .before .before .before .before .before .before .before .quiet-seconds .ensures, c .before .before .before .before .before .before .before .before .off-line .ensures, c .before .before .before .before .before .before .before .before .before .t-dir .ensures, c .before .before .before .before .before .before .before .before .before .before .protocol .ensures)
+returns c = rw (c .direction .ensures, c .before .flag2 .ensures, c .before .before .before .before .before .before .before .before .before .before .before .pre .1, c .before .before .flag .ensures, c .before .before .before .ck-cond .ensures, c .before .before .before .before .power .ensures, c .before .before .before .before .before .multiple-count .ensures, c .before .before .before .before .before .before .quiet-seconds .ensures, c .before .before .before .before .before .before .before .off-line .ensures, c .before .before .before .before .before .before .before .before .t-dir .ensures, c .before .before .before .before .before .before .before .before .before .protocol .ensures)
 
 pub command-order-spec : {M : Type 1} → statement M
 command-order-spec =
@@ -55,7 +52,6 @@ command-order-spec =
     power-requires
     ck-cond-requires
     flag-requires
-    extend-requires
     flag-requires-2
     direction-requires
     returns)
