@@ -1,7 +1,8 @@
 /*
  * Piongseut: the bridge board between SATA drives and SCSI hosts, as a C library: libpiongseut.a, for x86-64 and System V.
  *
- * Every function is proved to do what is said here, for every value and every size; on values there is no precondition. A pointer
+ * Every function of this file is proved to do what is said here, for every value and every size; on values there is no precondition.
+ * Long calls are made with their parts named by piongseut_named.h, which this file includes at its end; examples/bay.c shows it. A pointer
  * and the number behind it are one lent piece of memory: the function reads it, and where it is not const it may write it, and it
  * keeps no pointer when it returns. Of pointers it needs this:
  *  - None is null. For an empty piece pass any other pointer, with size 0: each pointer is taken for a reference, which is never
@@ -536,6 +537,13 @@ piongseut_build_answer piongseut_build(piongseut_order order);
 
 #ifdef __cplusplus
 }
+#endif
+
+/* The long calls once more, with their parts named: C over the functions above, inline, which C has since C99; and not proved. */
+#if defined(__cplusplus) || (defined(__STDC_VERSION__) && __STDC_VERSION__ >= 199901L)
+#ifndef PIONGSEUT_WITHOUT_NAMED
+#include "piongseut_named.h"
+#endif
 #endif
 
 #endif

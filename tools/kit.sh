@@ -1,6 +1,7 @@
 # shellcheck shell=bash disable=SC2034
 # Sourced by what compiles C code against the board's library. kit_prepare makes ready what that takes and sets
 #   kit_cc        the C compiler for x86-64, the processor that the library is for
+#   kit_cxx       the C++ compiler for it
 #   kit_archive   the library, made anew where it is not that of the sources at hand
 #   kit_include   the folder of its header
 #   kit_run       how an x86-64 program is run: by an emulator, or as it is where the machine is one
@@ -22,6 +23,7 @@ kit_does() {
 kit_compiler() {
     kit_cc=gcc
     [ "$(uname -m)" = x86_64 ] || kit_cc=x86_64-linux-gnu-gcc
+    kit_cxx=${kit_cc%gcc}g++
 }
 
 kit_emulator() {
