@@ -40,10 +40,10 @@ extern "C" {
 #endif
 
 /* The version of this interface, as text and as a number with a byte for each part. */
-#define PIONGSEUT_VERSION_MAJOR 4
+#define PIONGSEUT_VERSION_MAJOR 5
 #define PIONGSEUT_VERSION_MINOR 0
 #define PIONGSEUT_VERSION_PATCH 0
-#define PIONGSEUT_VERSION_STRING "4.0.0"
+#define PIONGSEUT_VERSION_STRING "5.0.0"
 #define PIONGSEUT_VERSION (PIONGSEUT_VERSION_MAJOR * 0x10000 + PIONGSEUT_VERSION_MINOR * 0x100 + PIONGSEUT_VERSION_PATCH)
 
 /* The archive lays its structs out in these sizes, which a compiler for something else than x86-64 may not share. */

@@ -4,10 +4,12 @@
 #   kit_cxx       the C++ compiler for it
 #   kit_archive   the library, made anew where it is not that of the sources at hand
 #   kit_include   the folder of its header
+#   kit_version   the version that the header tells, which the programs have too
 #   kit_run       how an x86-64 program is run: by an emulator, or as it is where the machine is one
 # Where it cannot, kit_problem says why. The variables PIONGSEUT_ARCHIVE, PIONGSEUT_INCLUDE and PIONGSEUT_EMULATOR name others.
 kit_root=$(cd "$(dirname "${BASH_SOURCE[0]}")/.." && pwd)
 kit_include=${PIONGSEUT_INCLUDE:-$kit_root/include}
+kit_version=$(sed -n 's/^#define PIONGSEUT_VERSION_STRING "\(.*\)"$/\1/p' "$kit_include/piongseut.h" 2>/dev/null)
 kit_problem=
 kit_run=()
 

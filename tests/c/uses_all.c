@@ -58,7 +58,7 @@ static void version(void)
 {
     char said[32];
     snprintf(said, sizeof said, "%d.%d.%d", PIONGSEUT_VERSION_MAJOR, PIONGSEUT_VERSION_MINOR, PIONGSEUT_VERSION_PATCH);
-    check(strcmp(said, PIONGSEUT_VERSION_STRING) == 0 && PIONGSEUT_VERSION == 0x040000, "version 4.0.0");
+    check(strcmp(said, PIONGSEUT_VERSION_STRING) == 0 && PIONGSEUT_VERSION == 0x050000, "version 5.0.0");
 }
 
 static const piongseut_ports no_ports = {PIONGSEUT_PORT_NONE, 0};

@@ -73,7 +73,7 @@ fn main() {
     let written = match wanted {
         Wanted::Read => say_checked(&buffer[..n]),
         Wanted::Help => say_help(),
-        Wanted::Version => say(b"bridgecheck (piongseut) 4.0.0\n"),
+        Wanted::Version => say(b"bridgecheck (piongseut) 5.0.0\n"),
         Wanted::Complained => true,
     };
     if !written {

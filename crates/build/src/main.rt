@@ -270,7 +270,7 @@ fn main() {
     let written = match wanted {
         Wanted::Read => report(source),
         Wanted::Help => say_help(),
-        Wanted::Version => say(b"build (piongseut) 4.0.0\n"),
+        Wanted::Version => say(b"build (piongseut) 5.0.0\n"),
         Wanted::Complained => true,
     };
     if !written {

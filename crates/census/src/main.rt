@@ -273,7 +273,7 @@ fn main() {
     let written = match wanted {
         Wanted::Read => report(source),
         Wanted::Help => say_help(),
-        Wanted::Version => say(b"census (piongseut) 4.0.0\n"),
+        Wanted::Version => say(b"census (piongseut) 5.0.0\n"),
         Wanted::Complained => true,
     };
     if !written {

@@ -221,7 +221,7 @@ fn main() {
     let written = match wanted {
         Wanted::Read => report(&buffer[..n]),
         Wanted::Help => say_help(),
-        Wanted::Version => say(b"feed (piongseut) 4.0.0\n"),
+        Wanted::Version => say(b"feed (piongseut) 5.0.0\n"),
         Wanted::Complained => true,
     };
     if !written {

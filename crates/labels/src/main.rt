@@ -195,7 +195,7 @@ fn main() {
     let written = match wanted {
         Wanted::Read => list(&buffer[..n]),
         Wanted::Help => say_help(),
-        Wanted::Version => say(b"labels (piongseut) 4.0.0\n"),
+        Wanted::Version => say(b"labels (piongseut) 5.0.0\n"),
         Wanted::Complained => true,
     };
     if !written {

@@ -99,7 +99,7 @@ fn main() {
     let written = match wanted {
         Wanted::Read => say_roll(&buffer[..n]),
         Wanted::Help => say_help(),
-        Wanted::Version => say(b"rollcall (piongseut) 4.0.0\n"),
+        Wanted::Version => say(b"rollcall (piongseut) 5.0.0\n"),
         Wanted::Complained => true,
     };
     if !written {
