@@ -4,7 +4,7 @@
 
 crate::table::header! {
     constants {
-        VERSION_MAJOR: u32 = 4;
+        VERSION_MAJOR: u32 = 5;
         VERSION_MINOR: u32 = 0;
         VERSION_PATCH: u32 = 0;
 
