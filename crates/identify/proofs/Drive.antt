@@ -1,18 +1,18 @@
 -- Laws of drives: when two texts are equal, when a block carries a name, and that being the same drive is an equivalence.
 use mathlib.Core.Path.{_≡_, refl, sym, ap, _∙_}
-use mathlib.Core.Bool.{Bool, true, false, not, _&&_, _||_, and-eq-true-iff, or-false, true≢false, false≢true}
-use mathlib.Core.List.{List, [], _∷_, map}
+use mathlib.Core.Bool.{Bool, true, false, not, _&&_, _||_, and-eq-true-iff, and-true, or-false, true≢false, false≢true}
+use mathlib.Core.List.{List, [], _∷_, _++_, map, map-append}
 use mathlib.Core.Logic.{_⊎_, inl, inr, ⊎-elim}
-use Prim.Native.Nat.{ℕ, zero, suc, _+_, _<_}
+use Prim.Native.Nat.{ℕ, zero, suc, _+_, _≤_, _<_, min}
 use native.Mathlib.Nat.{le-of-suc-le-suc, not-suc-le-zero}
 use native.Mathlib.Omega.{arith}
 use lib.Dec.{eqb, eqb·suc-zero}
-use lib.ListN.{length, getD, length-map}
+use lib.ListN.{length, getD, take, drop}
+use lib.Seq.{take-add, take-all}
 use borrow.Author.Tests.{eq-eqb, ne-eqb, eqb-true}
 use Rattle.identify.specs.Block.{word, serial, model, name}
 use Rattle.texts.specs.Text.{spaced}
 use Rattle.identify.specs.Drive.{someBit, saysNamed, carriesName, equal, sameDrive}
-use Rattle.texts.proofs.Text.{getD-map}
 
 -- No bit is one where every byte is zero, and some bit is one where some byte is not.
 pub no-bit : (s : List ℕ) → ((k : ℕ) → k < length s → getD s k 0 ≡ 0) → someBit s ≡ false
@@ -62,22 +62,57 @@ never false n = refl
 pub not-equal : (s t : List ℕ) → (s ≡ t → ⊥) → equal s t ≡ false
 not-equal s t n = never (equal s t) (λ e. n (equal-same s t e))
 
--- Texts whose bytes f maps: equal where all bytes are, and not where one differs or the lengths do.
+-- The front of a front that is as long, or all there is.
+take-within : (k i : ℕ) (s : List ℕ) → min k (length s) ≤ i → take k (take i s) ≡ take k s
+take-within zero i s h = refl
+take-within (suc k) zero [] h = refl
+take-within (suc k) (suc i) [] h = refl
+take-within (suc k) zero (b ∷ s) h = absurd (omega arith)
+take-within (suc k) (suc i) (b ∷ s) h = ap (λ (l : List ℕ). b ∷ l) (take-within k i s (omega arith))
+
+-- Texts whose bytes f maps, compared part by part.
 module _ (f : ℕ → ℕ) where
-  pub equal-all : (s t : List ℕ) → length s ≡ length t → ((k : ℕ) → k < length s → f (getD s k 0) ≡ f (getD t k 0)) → equal (map f s) (map f t) ≡ true
-  unfolding equal
-  equal-all [] [] l z = refl
-  equal-all [] (b ∷ t) l z = absurd (omega arith)
-  equal-all (a ∷ s) [] l z = absurd (omega arith)
-  equal-all (a ∷ s) (b ∷ t) l z = rw (eq-eqb (f a) (f b) (z 0 (omega arith))) (equal-all s t (omega arith) (λ k h. z (suc k) (omega arith)))
+  map-take : (n : ℕ) (s : List ℕ) → map f (take n s) ≡ take n (map f s)
+  map-take zero s = refl
+  map-take (suc n) [] = refl
+  map-take (suc n) (b ∷ s) = ap (λ (l : List ℕ). f b ∷ l) (map-take n s)
 
-  pub differ-at : (s t : List ℕ) (k : ℕ) → k < length s → k < length t → (f (getD s k 0) ≡ f (getD t k 0) → ⊥) → equal (map f s) (map f t) ≡ false
-  differ-at s t k hs ht n =
-      not-equal (map f s) (map f t)
-      (λ e. n (sym (getD-map f s k hs) ∙ ap (λ (l : List ℕ). getD l k 0) e ∙ getD-map f t k ht))
+  map-drop : (n : ℕ) (s : List ℕ) → map f (drop n s) ≡ drop n (map f s)
+  map-drop zero s = refl
+  map-drop (suc n) [] = refl
+  map-drop (suc n) (b ∷ s) = map-drop n s
 
-  pub differ-in-length : (s t : List ℕ) → (length s ≡ length t → ⊥) → equal (map f s) (map f t) ≡ false
-  differ-in-length s t n = not-equal (map f s) (map f t) (λ e. n (sym (length-map s f) ∙ ap length e ∙ length-map t f))
+  module _ (s t : List ℕ) where
+    -- The same up to a place, and in the n bytes from one on.
+    abbrev pub SameTo : ℕ → Type 0
+    SameTo i = map f (take i s) ≡ map f (take i t)
+
+    abbrev pub sameFrom : ℕ → ℕ → Bool
+    sameFrom i n = equal (map f (take n (drop i s))) (map f (take n (drop i t)))
+
+    -- Texts that differ in a part differ.
+    pub differ-in-part : (i n : ℕ) → sameFrom i n ≡ false → equal (map f s) (map f t) ≡ false
+    differ-in-part i n h =
+        not-equal (map f s) (map f t)
+        (λ e. true≢false (sym (equal-of (part s ∙ ap (λ (l : List ℕ). take n (drop i l)) e ∙ sym (part t))) ∙ h))
+      where
+        part : (s : List ℕ) → map f (take n (drop i s)) ≡ take n (drop i (map f s))
+        part s = map-take n (drop i s) ∙ ap (take n) (map-drop i s)
+
+    -- The same up to a place: so up to any that is not behind it, or behind the end; with the next part; and whole.
+    pub same-within : (i k : ℕ) → min k (length s) ≤ i → min k (length t) ≤ i → SameTo i → SameTo k
+    same-within i k hs ht e = front s hs ∙ ap (take k) e ∙ sym (front t ht)
+      where
+        front : (s : List ℕ) → min k (length s) ≤ i → map f (take k s) ≡ take k (map f (take i s))
+        front s h = ap (map f) (sym (take-within k i s h)) ∙ map-take k (take i s)
+
+    pub same-more : (i n : ℕ) → SameTo i → sameFrom i n ≡ true → SameTo (i + n)
+    same-more i n e h =
+        let part = equal-same (map f (take n (drop i s))) (map f (take n (drop i t))) h in
+        rw (take-add i n s, take-add i n t, map-append f (take i s), map-append f (take i t), e, part)
+
+    pub same-whole : (i : ℕ) → length s ≤ i → length t ≤ i → SameTo i → equal (map f s) (map f t) ≡ true
+    same-whole i hs ht e = equal-of (rw (take-all i s hs, take-all i t ht) at e)
 
 -- The two cases of demand 3, over their tests alone.
 cases : (p q n m s : Bool) → (p && q && n || not p && not q && m && s) ≡ true → ((p ≡ true) × (q ≡ true) × (n ≡ true)) ⊎ ((p ≡ false) × (q ≡ false) × (m ≡ true) × (s ≡ true))
@@ -85,6 +120,15 @@ cases true true n m s e = inl (refl, refl, rw or-false at e)
 cases true false n m s e = absurd (false≢true e)
 cases false true n m s e = absurd (false≢true e)
 cases false false n m s e = let both = and-eq-true-iff m s .0 e in inr (refl, refl, both .0, both .1)
+
+-- The same tests, once it is known whether the second carries a name.
+with-name : (p n m s : Bool) → (p && true && n || not p && false && m && s) ≡ (p && n)
+with-name true n m s = or-false n
+with-name false n m s = refl
+
+without : (p n m s : Bool) → (p && false && n || not p && true && m && s) ≡ (not p && (m && s))
+without true n m s = refl
+without false n m s = refl
 
 module _ (a b : List ℕ) where
   -- One name, which both carry.
@@ -95,18 +139,19 @@ module _ (a b : List ℕ) where
   abbrev pub OneText : Type 0
   OneText = (carriesName a ≡ false) × (carriesName b ≡ false) × (spaced (model a) ≡ spaced (model b)) × (spaced (serial a) ≡ spaced (serial b))
 
-  -- Given who carries a name, what is left to compare.
-  pub first-named : carriesName a ≡ true → sameDrive a b ≡ (carriesName b && equal (name a) (name b))
+  -- Given whether the second carries a name, what is left to compare.
+  pub other-named : carriesName b ≡ true → sameDrive a b ≡ (carriesName a && equal (name a) (name b))
   unfolding sameDrive
-  first-named p = rw (p, or-false)
+  other-named q = rw (q, with-name)
 
-  pub other-named : carriesName a ≡ false → carriesName b ≡ true → sameDrive a b ≡ false
+  pub other-nameless : carriesName b ≡ false → sameDrive a b ≡ (not (carriesName a) && (equal (spaced (model a)) (spaced (model b)) && equal (spaced (serial a)) (spaced (serial b))))
   unfolding sameDrive
-  other-named p q = rw (p, q)
+  other-nameless q = rw (q, without)
 
-  pub none-named : carriesName a ≡ false → carriesName b ≡ false → sameDrive a b ≡ (equal (spaced (model a)) (spaced (model b)) && equal (spaced (serial a)) (spaced (serial b)))
-  unfolding sameDrive
-  none-named p q = rw (p, q)
+  -- Of a first with the name of a second that carries it, word 87 is left to ask.
+  pub word-says : carriesName b ≡ true → equal (name a) (name b) ≡ true → carriesName a ≡ saysNamed (word a 87)
+  unfolding carriesName
+  word-says q e = rw (equal-same (name a) (name b) e, named-some-bit b q, and-true)
 
   -- The same drive, exactly when one or the other holds.
   pub same-drive-means : sameDrive a b ≡ true → OneName ⊎ OneText

@@ -4,3 +4,4 @@ pub mod Bytes
 pub mod Drive
 pub mod Sector
 pub mod Words
+pub mod Helpers

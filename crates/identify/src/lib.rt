@@ -1,12 +1,13 @@
 // Identify: what the board reads in a drive's IDENTIFY block. The rules stand in specs/: Block (words and fields), Drive (carries a
 // name, the same drive) and Sector (the size of a logical sector).
+mod eights;
+
 ghost use mathlib.Core.Path.{_≡_};
 ghost use mathlib.Core.Bool.{_&&_};
-ghost use mathlib.Core.List.{List, map};
+ghost use mathlib.Core.List.{List};
 ghost use Prim.Native.Nat.{_<_, _^_};
 ghost use lib.ListN.{length};
 ghost use Rattle.texts.specs.Text.{spaced};
-ghost use Rattle.texts.specs.Helpers.{shown};
 ghost use Rattle.identify.specs.Block.{word as Block·word, serial as Block·serial, firmware as Block·firmware, model as Block·model, name as Block·name};
 ghost use Rattle.identify.specs.Drive.{someBit, saysNamed, carriesName, equal, sameDrive};
 ghost use Rattle.identify.specs.Sector.{tellsSize, sectorSize};
@@ -89,16 +90,16 @@ pub fn carries_name(block: &[u8]) -> bool
     false
 }
 
-// Whether two texts are equal, with zero bytes read as spaces or as they stand.
-fn alike(a: &[u8], b: &[u8], spaced: bool) -> bool
-    ensures { λ r. ⌜ r ≡ equal (map (shown spaced) (now (a .entry))) (map (shown spaced) (now (b .entry))) ⌝ }
+// Whether two runs of bytes are the same.
+pub fn same_bytes(a: &[u8], b: &[u8]) -> bool
+    ensures { λ r. ⌜ r ≡ equal (now (a .entry)) (now (b .entry)) ⌝ }
 {
     if a.len() != b.len() {
         return false;
     }
     let mut i = 0;
     while i < a.len() {
-        if texts::shown(spaced, a[i]) != texts::shown(spaced, b[i]) {
+        if a[i] != b[i] {
             return false;
         }
         i += 1;
@@ -106,46 +107,40 @@ fn alike(a: &[u8], b: &[u8], spaced: bool) -> bool
     true
 }
 
-// Whether two runs of bytes are the same.
-pub fn same_bytes(a: &[u8], b: &[u8]) -> bool
-    ensures { λ r. ⌜ r ≡ equal (now (a .entry)) (now (b .entry)) ⌝ }
-{
-    alike(a, b, false)
-}
-
 fn same_name(a: &[u8], b: &[u8]) -> bool
     requires { ⌜ (length (now a) ≡ 512) × (length (now b) ≡ 512) ⌝ }
     ensures { λ r. ⌜ r ≡ equal (Block·name (now (a .entry))) (Block·name (now (b .entry))) ⌝ }
 {
-    same_bytes(name(a), name(b))
+    eights::number(name(a)) == eights::number(name(b))
 }
 
+// Serial numbers nearly always differ, models seldom.
 fn same_texts(a: &[u8], b: &[u8]) -> bool
     requires { ⌜ (length (now a) ≡ 512) × (length (now b) ≡ 512) ⌝ }
     ensures { λ r. ⌜ r ≡ (equal (spaced (Block·model (now (a .entry)))) (spaced (Block·model (now (b .entry)))) && equal (spaced (Block·serial (now (a .entry)))) (spaced (Block·serial (now (b .entry))))) ⌝ }
 {
-    if alike(model(a), model(b), true) {
-        return alike(serial(a), serial(b), true);
+    if eights::same_text(serial(a), serial(b)) {
+        return eights::same_text(model(a), model(b));
     }
     false
 }
 
-// Whether two blocks are of the same drive. Two names nearly always differ, so that only one of the blocks is asked whether it
-// carries one.
-pub fn same_drive(a: &[u8], b: &[u8]) -> bool
-    requires { ⌜ (length (now a) ≡ 512) × (length (now b) ≡ 512) ⌝ }
+// Whether two blocks are of the same drive, where it is known whether the second carries a name. Two names or two texts nearly always
+// differ, so that the first block is asked last whether it carries one; where it has the second's name, only its word 87.
+pub fn same_drive(a: &[u8], b: &[u8], named: bool) -> bool
+    requires { ⌜ (length (now a) ≡ 512) × (length (now b) ≡ 512) × (named ≡ carriesName (now b)) ⌝ }
     ensures { λ r. ⌜ r ≡ sameDrive (now (a .entry)) (now (b .entry)) ⌝ }
 {
-    if carries_name(a) {
+    if named {
         if same_name(a, b) {
-            return carries_name(b);
+            return says_named(word(a, 87));
         }
         return false;
     }
-    if carries_name(b) {
-        return false;
+    if same_texts(a, b) {
+        return !carries_name(a);
     }
-    same_texts(a, b)
+    false
 }
 
 // Whether word 106 says that words 117 and 118 tell the size of a logical sector.

@@ -31,9 +31,11 @@ fn first_of(bytes: &[u8], i: usize) -> usize
     requires { ⌜ 512 * i + 512 ≤ length (now bytes) ⌝ }
     ensures { λ r. ⌜ Found (now (bytes .entry)) i r ⌝ }
 {
+    let block = block_at(bytes, i);
+    let named = identify::carries_name(block);
     let mut j = 0;
     while j < i {
-        if identify::same_drive(block_at(bytes, j), block_at(bytes, i)) {
+        if identify::same_drive(block_at(bytes, j), block, named) {
             return j;
         }
         j += 1;

@@ -1,57 +1,61 @@
--- `same_drive`: who carries a name settles what is left to compare.
-use mathlib.Core.Path.{_∙_, sym}
-use mathlib.Core.Bool.{and-true, and-false}
-use Rattle.identify.proofs.Drive.{first-named, other-named, none-named}
+-- `same_drive`: whether the second block carries a name settles what is left to compare.
+use mathlib.Core.Path.{_∙_, ap, sym}
+use mathlib.Core.Bool.{not, and-true, and-false}
+use Rattle.identify.specs.Drive.{saysNamed}
+use Rattle.identify.proofs.Drive.{other-named, other-nameless, word-says}
 use borrow.Author.Needs.{needs}
 use Rattle.identify.proofs.same_drive.Statement.{statement}
 use Rattle.identify.proofs.same_drive.Tie as tie
 
-carries-name-requires : tie.Need-carries-name-requires
-carries-name-requires c κs = search needs
-
 same-name-requires : tie.Need-same-name-requires
 same-name-requires c κs = search needs
 
-carries-name-requires-2 : tie.Need-carries-name-requires-2
-carries-name-requires-2 c κs = search needs
+word-requires : tie.Need-word-requires
+word-requires c κs = search needs
+
+says-named-requires : tie.Need-says-named-requires
+says-named-requires c κs = search needs
 
 returns : tie.Need-returns
 returns c =
-    let w = c .before .before .before .before in
-    c .carries-name2 .ensures
-    ∙ sym (first-named _ _ (sym (w .carries-name .ensures) ∙ c .before .before .before .if1 .taken) ∙ rw (sym (c .before .before .same-name .ensures) ∙ c .before .if2 .taken, and-true))
+    let a = c .before .before .before .before .before .before .before in
+    let named = sym (a .pre .2) ∙ c .before .before .before .before .if1 .taken in
+    let same = sym (c .before .before .before .same-name .ensures) ∙ c .before .before .if2 .taken in
+    c .says-named .ensures ∙ ap saysNamed (c .before .word .ensures)
+    ∙ sym (other-named (a .args .a .now) (a .args .b .now) named ∙ rw (same, and-true) (word-says (a .args .a .now) (a .args .b .now) named same))
 
 returns-2 : tie.Need-returns-2
 returns-2 c =
-    let w = c .before .before .before in
-    sym (first-named _ _ (sym (w .carries-name .ensures) ∙ c .before .before .if1 .taken) ∙ rw (sym (c .before .same-name .ensures) ∙ c .if2 .left, and-false))
-
-carries-name-requires-3 : tie.Need-carries-name-requires-3
-carries-name-requires-3 c κs = search needs
-
-returns-3 : tie.Need-returns-3
-returns-3 c =
-    let w = c .before .before .before in
-    sym (other-named _ _ (sym (w .carries-name .ensures) ∙ c .before .before .if1 .left) (sym (c .before .carries-name3 .ensures) ∙ c .if3 .taken))
+    let a = c .before .before .before .before .before in
+    sym (other-named _ _ (sym (a .pre .2) ∙ c .before .before .if1 .taken) ∙ rw (sym (c .before .same-name .ensures) ∙ c .if2 .left, and-false))
 
 same-texts-requires : tie.Need-same-texts-requires
 same-texts-requires c κs = search needs
 
+carries-name-requires : tie.Need-carries-name-requires
+carries-name-requires c κs = search needs
+
+returns-3 : tie.Need-returns-3
+returns-3 c =
+    let a = c .before .before .before .before .before .before in
+    ap not (c .carries-name .ensures)
+    ∙ sym (other-nameless _ _ (sym (a .pre .2) ∙ c .before .before .before .if1 .left) ∙ rw (sym (c .before .before .same-texts .ensures) ∙ c .before .if3 .taken, and-true))
+
 returns-4 : tie.Need-returns-4
 returns-4 c =
-    let w = c .before .before .before .before in
-    c .same-texts .ensures ∙ sym (none-named _ _ (sym (w .carries-name .ensures) ∙ c .before .before .before .if1 .left) (sym (c .before .before .carries-name3 .ensures) ∙ c .before .if3 .left))
+    let a = c .before .before .before .before .before in
+    sym (other-nameless _ _ (sym (a .pre .2) ∙ c .before .before .if1 .left) ∙ rw (sym (c .before .same-texts .ensures) ∙ c .if3 .left, and-false))
 
 pub same-drive-spec : {M : Type 1} → statement M
 same-drive-spec =
     tie.close
     (tie.spec
-    carries-name-requires
     same-name-requires
-    carries-name-requires-2
+    word-requires
+    says-named-requires
     returns
     returns-2
-    carries-name-requires-3
-    returns-3
     same-texts-requires
+    carries-name-requires
+    returns-3
     returns-4)

@@ -11,16 +11,19 @@ use Rattle.roll.proofs.first_of.Statement.{statement}
 use Rattle.roll.proofs.first_of.Tie as tie
 
 abbrev Inv-loop : tie.InvT-loop
-Inv-loop bytes i j₀ j = (j ≤ i) × ((k : ℕ) → k < j → sameDrive (blockAt bytes k) (blockAt bytes i) ≡ false)
+Inv-loop bytes i block named j₀ j = (j ≤ i) × ((k : ℕ) → k < j → sameDrive (blockAt bytes k) (blockAt bytes i) ≡ false)
 
 abbrev μ-loop : tie.MeasureT-loop
-μ-loop bytes i j₀ j = i - j
-
-loop-holds : tie.Need-loop-holds Inv-loop μ-loop
-loop-holds c = (search needs, λ k h. absurd (omega arith))
+μ-loop bytes i block named j₀ j = i - j
 
 block-at-requires : tie.Need-block-at-requires Inv-loop μ-loop
 block-at-requires c κs = search needs
+
+carries-name-requires : tie.Need-carries-name-requires Inv-loop μ-loop
+carries-name-requires c κs = search needs
+
+loop-holds : tie.Need-loop-holds Inv-loop μ-loop
+loop-holds c = (search needs, λ k h. absurd (omega arith))
 
 block-at-requires-2 : tie.Need-block-at-requires-2 Inv-loop μ-loop
 block-at-requires-2 c κs = search needs
@@ -30,10 +33,11 @@ same-drive-requires c κs = search needs
 
 returns : tie.Need-returns Inv-loop μ-loop
 returns c =
+    let l = c .before .before .before .before in
     record {
       within = omega arith;
-      same = λ h. rw (c .before .before .before .block-at .ensures .0, c .before .before .block-at2 .ensures .0) at (sym (c .before .same-drive .ensures) ∙ c .if1 .taken);
-      other = c .before .before .before .before .before .loop .inv .1;
+      same = λ h. rw (c .before .before .block-at2 .ensures .0, l .before .before .block-at .ensures .0) at (sym (c .before .same-drive .ensures) ∙ c .if1 .taken);
+      other = l .loop .inv .1;
     }
 
 add-j : tie.Need-add-j Inv-loop μ-loop
@@ -44,7 +48,9 @@ loop-less c = search needs
 
 loop-again : tie.Need-loop-again Inv-loop μ-loop
 loop-again c =
-    (search needs, below-more _ _ (c .before .before .before .before .before .loop .inv .1) (rw (c .before .before .before .block-at .ensures .0, c .before .before .block-at2 .ensures .0) at (sym (c .before .same-drive .ensures) ∙ c .if1 .left)))
+    let l = c .before .before .before .before in
+    let this = rw (c .before .before .block-at2 .ensures .0, l .before .before .block-at .ensures .0) at (sym (c .before .same-drive .ensures) ∙ c .if1 .left) in
+    (search needs, below-more _ _ (l .loop .inv .1) this)
 
 returns-2 : tie.Need-returns-2 Inv-loop μ-loop
 returns-2 c =
@@ -56,8 +62,9 @@ first-of-spec =
     (tie.spec
     Inv-loop
     μ-loop
-    loop-holds
     block-at-requires
+    carries-name-requires
+    loop-holds
     block-at-requires-2
     same-drive-requires
     returns
