@@ -1,8 +1,8 @@
 -- Laws of how far two runs of bytes agree, over runs of every length.
 use mathlib.Core.Path.{_≡_, refl, sym, ap, _∙_}
-use mathlib.Core.Bool.{Bool, true, false, cond}
-use mathlib.Core.List.{List, [], _∷_, _++_, append-nil}
-use Prim.Native.Nat.{ℕ, zero, suc, _+_, _-_, _≤_, _<_, min}
+use mathlib.Core.Bool.{Bool, true, false, cond, _&&_, and-eq-true-iff, true≢false}
+use mathlib.Core.List.{List, [], _∷_, _++_, map, append-nil}
+use Prim.Native.Nat.{ℕ, zero, suc, _+_, _-_, _%_, _≤_, _<_, min}
 use native.Mathlib.Nat.{le-of-suc-le-suc, not-suc-le-zero}
 use native.Mathlib.Omega.{arith}
 use lib.Dec.{eqb}
@@ -10,7 +10,10 @@ use lib.ListN.{length, getD, take, drop, length-drop}
 use lib.Seq.{ext-getD, getD-drop, drop-drop}
 use borrow.Author.Count.{below-more}
 use borrow.Author.Tests.{eq-eqb, ne-eqb, eqb-true, eqb-false}
+use Rattle.texts.specs.Text.{turned}
+use Rattle.texts.proofs.Text.{word-first, word-second}
 use Rattle.agreement.specs.Agreed.{agreed}
+use Rattle.agreement.specs.Helpers.{whole, four}
 
 -- i is within both runs, and they agree before i.
 pub record Agreeing (s t : List ℕ) (i : ℕ) : Type 0 where
@@ -128,6 +131,100 @@ module _ {run : List ℕ} {at n : ℕ} {piece : List ℕ} {i : ℕ} (c : Compari
 
   pub ends-alike : n ≤ i → at + i ≡ at + agreed (drop at run) piece
   ends-alike h = ends (λ p q e. omega (arith, c .upto, c .most, length-drop at run))
+
+-- The four bytes of a piece from place i on: as they stand, or of a text that is turned.
+pub record FourAt (piece : List ℕ) (i a b c d : ℕ) : Type 0 where
+  pub first : getD piece i 0 ≡ a
+  pub second : getD piece (i + 1) 0 ≡ b
+  pub third : getD piece (i + 2) 0 ≡ c
+  pub fourth : getD piece (i + 3) 0 ≡ d
+
+pub own-four : (piece : List ℕ) (i : ℕ) → FourAt piece i (getD piece i 0) (getD piece (i + 1) 0) (getD piece (i + 2) 0) (getD piece (i + 3) 0)
+own-four piece i = record { first = refl; second = refl; third = refl; fourth = refl }
+
+pub text-four : (f : ℕ → ℕ) (s : List ℕ) (i : ℕ) → i % 4 ≡ 0 → i + 4 ≤ length s → {a b c d : ℕ} → a ≡ f (getD s (i + 1) 0) → b ≡ f (getD s i 0) → c ≡ f (getD s (i + 3) 0) → d ≡ f (getD s (i + 2) 0) → FourAt (map f (turned s)) i a b c d
+text-four f s i even h ea eb ec ed =
+    let next : i + 2 + 1 ≡ i + 3 = omega arith in
+    record {
+      first = word-first f s i (omega arith) (omega arith) ∙ sym ea;
+      second = word-second f s i (omega arith) (omega arith) ∙ sym eb;
+      third = rw next at (word-first f s (i + 2) (omega arith) (omega arith)) ∙ sym ec;
+      fourth = rw next at (word-second f s (i + 2) (omega arith) (omega arith)) ∙ sym ed;
+    }
+
+-- A loop that compares a piece of n bytes four at a time, before its turn i: it is of whole fours, and the run has as many bytes.
+pub record ByFours (run : List ℕ) (at n : ℕ) (piece : List ℕ) (i : ℕ) : Type 0 where
+  pub fours : i % 4 ≡ 0
+  pub all-fours : n % 4 ≡ 0
+  pub upto : i ≤ n
+  pub within : at + n ≤ length run
+  pub size : n ≡ length piece
+  pub alike : (k : ℕ) → k < i → getD run (at + k) 0 ≡ getD piece k 0
+
+pub begin-fours : {run : List ℕ} {at n : ℕ} {piece : List ℕ} → n % 4 ≡ 0 → at + n ≤ length run → n ≡ length piece → ByFours run at n piece 0
+begin-fours f w s = record { fours = omega arith; all-fours = f; upto = omega arith; within = w; size = s; alike = λ k h. absurd (not-suc-le-zero h) }
+
+below-four : (P : ℕ → Type 0) (i : ℕ) → ((k : ℕ) → k < i → P k) → P i → P (i + 1) → P (i + 2) → P (i + 3) → (k : ℕ) → k < i + 4 → P k
+below-four P i f p q r s k h =
+    below-more P (i + 3)
+    (λ l g. below-more P (i + 2) (λ m e. below-more P (i + 1) (below-more P i f p) q m (omega (arith, e))) r l (omega (arith, g)))
+    s k (omega (arith, h))
+
+all-four : (w x y z : Bool) → (((w && x) && y) && z) ≡ true → ((w ≡ true) × (x ≡ true)) × ((y ≡ true) × (z ≡ true))
+all-four w x y z e =
+    let three = and-eq-true-iff ((w && x) && y) z .0 e in
+    let two = and-eq-true-iff (w && x) y .0 (three .0) in
+    (and-eq-true-iff w x .0 (two .0), (two .1, three .1))
+
+module _ {run : List ℕ} {at n : ℕ} {piece : List ℕ} {i : ℕ} (w : ByFours run at n piece i) (h : i < n) {a b c d : ℕ} (t : FourAt piece i a b c d) where
+  fits : i + 4 ≤ n
+  fits = omega (arith, w .fours, w .all-fours, h)
+
+  pub same-four : four run (at + i) a b c d ≡ true → ByFours run at n piece (i + 4)
+  same-four e =
+      let s = all-four (eqb (getD run (at + i) 0) a) (eqb (getD run (at + i + 1) 0) b) (eqb (getD run (at + i + 2) 0) c) (eqb (getD run (at + i + 3) 0) d) e in
+      let one : at + (i + 1) ≡ at + i + 1 = omega arith in
+      let two : at + (i + 2) ≡ at + i + 2 = omega arith in
+      let three : at + (i + 3) ≡ at + i + 3 = omega arith in
+      record {
+        fours = omega (arith, w .fours);
+        all-fours = w .all-fours;
+        upto = fits;
+        within = w .within;
+        size = w .size;
+        alike =
+            below-four (λ k. getD run (at + k) 0 ≡ getD piece k 0) i (w .alike)
+            (eqb-true _ _ (s .0 .0) ∙ sym (t .first))
+            (rw one (eqb-true _ _ (s .0 .1) ∙ sym (t .second)))
+            (rw two (eqb-true _ _ (s .1 .0) ∙ sym (t .third)))
+            (rw three (eqb-true _ _ (s .1 .1) ∙ sym (t .fourth)));
+      }
+
+  pub other-four : four run (at + i) a b c d ≡ false → false ≡ whole run at piece
+  other-four e = sym (ne-eqb (agreed (drop at run) piece) (length piece) (λ l. true≢false (sym (stands l) ∙ e)))
+    where
+      same : agreed (drop at run) piece ≡ length piece → (k : ℕ) → k < i + 4 → getD run (at + k) 0 ≡ getD piece k 0
+      same l k g = sym (getD-drop at run k 0) ∙ agrees (drop at run) piece .before k (omega (arith, l, g, fits, w .size))
+
+      stands : agreed (drop at run) piece ≡ length piece → four run (at + i) a b c d ≡ true
+      stands l =
+          let one : at + (i + 1) ≡ at + i + 1 = omega arith in
+          let two : at + (i + 2) ≡ at + i + 2 = omega arith in
+          let three : at + (i + 3) ≡ at + i + 3 = omega arith in
+          rw (eq-eqb (getD run (at + i) 0) a (same l i (omega arith) ∙ t .first), eq-eqb (getD run (at + i + 1) 0) b (rw one at (same l (i + 1) (omega arith)) ∙ t .second), eq-eqb (getD run (at + i + 2) 0) c (rw two at (same l (i + 2) (omega arith)) ∙ t .third), eq-eqb (getD run (at + i + 3) 0) d (rw three at (same l (i + 3) (omega arith)) ∙ t .fourth))
+
+pub end-fours : {run : List ℕ} {at n : ℕ} {piece : List ℕ} {i : ℕ} → ByFours run at n piece i → n ≤ i → true ≡ whole run at piece
+end-fours {run} {at} {n} {piece} {i} w h =
+    let c : Comparing run at n piece i = record { upto = w .upto; most = omega (arith, w .within, w .size); alike = w .alike } in
+    sym (eq-eqb (agreed (drop at run) piece) (length piece) (omega (arith, ends-alike c h, h, w .upto, w .size)))
+
+-- A run that ends before the piece does, and a piece that stands there whole.
+pub too-short : (run : List ℕ) (at n : ℕ) (piece : List ℕ) → n ≡ length piece → length run - at < n → false ≡ whole run at piece
+too-short run at n piece e h =
+    sym (ne-eqb (agreed (drop at run) piece) (length piece) (λ l. omega (arith, l, e, h, agrees (drop at run) piece .within-first, length-drop at run)))
+
+pub whole-agrees : (run : List ℕ) (at n : ℕ) (piece : List ℕ) → n ≡ length piece → whole run at piece ≡ true → at + n ≡ at + agreed (drop at run) piece
+whole-agrees run at n piece e t = omega (arith, e, eqb-true (agreed (drop at run) piece) (length piece) t)
 
 -- The place up to which a run agrees, from a place on, is within the run.
 pub reaches-within : (run p : List ℕ) (at : ℕ) {r : ℕ} → r ≡ at + agreed (drop at run) p → at ≤ length run → r ≤ length run
