@@ -1,9 +1,9 @@
--- Laws of fields that are judged one behind the other, and of the loop that does so.
-use mathlib.Core.Path.{_≡_, refl, sym, _∙_}
+-- Laws of fields that are judged one behind the other, and of the walk that does so.
+use mathlib.Core.Path.{_≡_, refl, sym, ap, _∙_}
 use mathlib.Core.Bool.{Bool, true, false, cond, true≢false}
 use mathlib.Core.List.{List, [], _∷_, _++_}
 use Prim.Native.Nat.{ℕ, _+_, _≤_, _<_}
-use native.Mathlib.Nat.{add-zero}
+use native.Mathlib.Nat.{add-zero, zero-add}
 use native.Mathlib.Omega.{arith}
 use lib.Dec.{eqb}
 use lib.ListN.{length, getD, drop, length-drop}
@@ -13,6 +13,7 @@ use Rattle.packet.specs.Packet.{packetDrive}
 use Rattle.capture.specs.Capture.{Field, field, others, told, content, stands, taken, fields, fieldsOf, information, holds, end}
 use Rattle.capture.proofs.Laws.{all-there, turn-stands, turn-lacks, no-turn}
 use Rattle.agreement.specs.Agreed.{agreed}
+use Rattle.checker.specs.declared.Held.{Held}
 use Rattle.checker.specs.Check.{signatureOf, blockOf, expected, accepted, differs, refused, judged, refusalOf, check}
 use Rattle.checker.specs.Helpers.{beside, frontBeside}
 
@@ -46,7 +47,7 @@ judged-zero information (f ∷ fs) = by (equal (f .bytes) (expected information 
     by true z = z
     by false z = refl
 
--- A loop over the tags that holds each field beside what it is to be, before its turn k.
+-- A walk over the tags that holds each field beside what it is to be, before its turn k.
 pub record Judging (information capture : List ℕ) (at k : ℕ) : Type 0 where
   pub upto : at ≤ length capture
   pub left : judged information (fields (drop k others) (drop at capture)) ≡ judged information (fields others capture)
@@ -80,6 +81,18 @@ module _ {information capture : List ℕ} {at k : ℕ} (w : Judging information 
   pub judge-end : 4 ≤ k → accepted ≡ judged information (fields others capture)
   unfolding judged
   judge-end h = rw (no-turn capture at k h) at (w .left)
+
+-- The same of a field that is held beside what it is to be, and of the place behind it.
+module _ {information capture : List ℕ} {at k : ℕ} (w : Judging information capture at k) (h : k < 4) {held : Held} (e : held ≡ frontBeside information (getD others k 0) (drop at capture)) where
+  pub judge-next : held .same ≡ true → {next : ℕ} → next ≡ at + taken (getD others k 0) (drop at capture) → Judging information capture next (k + 1)
+  judge-next s n = rw n (judge-on w h (ap (λ (x : Held). x .same) (sym e) ∙ s))
+
+  pub judge-fault : held .same ≡ false → differs (getD others k 0) (held .place) ≡ judged information (fields others capture)
+  judge-fault s = rw e (judge-stop w h (ap (λ (x : Held). x .same) (sym e) ∙ s))
+
+-- The first stands where the capture starts.
+pub judge-first : (information capture : List ℕ) {held : Held} → held ≡ frontBeside information 0x00 capture → held .same ≡ true → {next : ℕ} → next ≡ taken 0x00 capture → Judging information capture next 1
+judge-first information capture e s n = judge-next (none-judged information capture) (omega arith) e s (n ∙ sym (zero-add (taken 0x00 capture)))
 
 -- The check by the first refusal that applies, and where none does.
 module _ (capture : List ℕ) where

@@ -4,13 +4,12 @@ mod named;
 mod plain;
 
 ghost use mathlib.Core.Path.{_≡_};
-ghost use mathlib.Core.Bool.{Bool};
+ghost use mathlib.Core.Bool.{Bool, true};
 ghost use mathlib.Core.List.{List, [], _∷_};
-ghost use Prim.Native.Nat.{_<_};
-ghost use lib.ListN.{length, getD};
+ghost use lib.ListN.{length};
 ghost use Rattle.capture.specs.Capture.{field, fields, others};
-ghost use Rattle.checker.specs.Check.{accepted as Check·accepted, differs as Check·differs, refused as Check·refused, judged, expected, signatureOf, blockOf, check as Check·check};
-ghost use Rattle.checker.specs.Helpers.{beside, frontBeside};
+ghost use Rattle.checker.specs.Check.{accepted as Check·accepted, differs as Check·differs, refused as Check·refused, judged, signatureOf, blockOf, check as Check·check};
+ghost use Rattle.checker.specs.Helpers.{frontBeside};
 
 // What comes back: the refusal's number or 0; 1 where the capture is accepted; the tag of the first field at fault; and the place: of
 // its first differing byte, or that at which the layout is broken.
@@ -78,35 +77,57 @@ fn block(page: &[u8]) -> &[u8]
     &page[60..572]
 }
 
-// A field other than 89h, beside what it is to be: that of tag k.
-fn other(k: usize, bytes: &[u8], information: &[u8]) -> Held
-    requires { ⌜ (k < 4) × (length (now information) ≡ 572) ⌝ }
-    ensures { λ r. ⌜ r ≡ beside (now (bytes .entry)) (expected (now (information .entry)) (field (getD others k 0) (now (bytes .entry)))) ⌝ }
+// A field that is not there is no other than it is to be.
+fn absent() -> Held
+    ensures { λ r. ⌜ r ≡ record { same = true; place = 0 } ⌝ }
 {
-    if k == 0 {
-        return plain::supported(bytes);
-    }
-    if k == 1 {
-        return plain::standard(bytes, block(information));
-    }
-    if k == 2 {
-        return plain::serial(bytes, block(information));
-    }
-    named::names(bytes, block(information))
-}
-
-// The field of tag k, where it stands at the front of what is left.
-fn front(k: usize, rest: &[u8], information: &[u8]) -> Held
-    requires { ⌜ (k < 4) × (length (now information) ≡ 572) ⌝ }
-    ensures { λ r. ⌜ r ≡ frontBeside (now (information .entry)) (getD others k 0) (now (rest .entry)) ⌝ }
-{
-    if capture::stands(rest, capture::OTHERS[k]) {
-        return other(k, capture::content(rest), information);
-    }
     Held {
         same: true,
         place: 0,
     }
+}
+
+// Page 00h, where it stands at the front of what is left.
+fn front_00(rest: &[u8], information: &[u8]) -> Held
+    ensures { λ r. ⌜ r ≡ frontBeside (now (information .entry)) 0x00 (now (rest .entry)) ⌝ }
+{
+    if capture::stands(rest, 0x00) {
+        return plain::supported(capture::content(rest));
+    }
+    absent()
+}
+
+// Standard data.
+fn front_01(rest: &[u8], information: &[u8]) -> Held
+    requires { ⌜ length (now information) ≡ 572 ⌝ }
+    ensures { λ r. ⌜ r ≡ frontBeside (now (information .entry)) 0x01 (now (rest .entry)) ⌝ }
+{
+    if capture::stands(rest, 0x01) {
+        return plain::standard(capture::content(rest), block(information));
+    }
+    absent()
+}
+
+// Page 80h.
+fn front_80(rest: &[u8], information: &[u8]) -> Held
+    requires { ⌜ length (now information) ≡ 572 ⌝ }
+    ensures { λ r. ⌜ r ≡ frontBeside (now (information .entry)) 0x80 (now (rest .entry)) ⌝ }
+{
+    if capture::stands(rest, 0x80) {
+        return plain::serial(capture::content(rest), block(information));
+    }
+    absent()
+}
+
+// Page 83h.
+fn front_83(rest: &[u8], information: &[u8]) -> Held
+    requires { ⌜ length (now information) ≡ 572 ⌝ }
+    ensures { λ r. ⌜ r ≡ frontBeside (now (information .entry)) 0x83 (now (rest .entry)) ⌝ }
+{
+    if capture::stands(rest, 0x83) {
+        return named::names(capture::content(rest), block(information));
+    }
+    absent()
 }
 
 // The fields before 89h, up to the first at fault.
@@ -114,16 +135,27 @@ fn others_checked(capture: &[u8], information: &[u8]) -> Checked
     requires { ⌜ length (now information) ≡ 572 ⌝ }
     ensures { λ r. ⌜ r ≡ judged (now (information .entry)) (fields others (now (capture .entry))) ⌝ }
 {
-    let mut at = 0;
-    let mut k = 0;
-    while k < 4 {
-        let rest = &capture[at..];
-        let held = front(k, rest, information);
-        if !held.same {
-            return differs(capture::OTHERS[k], held.place);
-        }
-        at += capture::taken(rest, capture::OTHERS[k]);
-        k += 1;
+    let held = front_00(capture, information);
+    if !held.same {
+        return differs(0x00, held.place);
+    }
+    let at = capture::taken(capture, 0x00);
+    let rest = &capture[at..];
+    let held = front_01(rest, information);
+    if !held.same {
+        return differs(0x01, held.place);
+    }
+    let at = at + capture::taken(rest, 0x01);
+    let rest = &capture[at..];
+    let held = front_80(rest, information);
+    if !held.same {
+        return differs(0x80, held.place);
+    }
+    let at = at + capture::taken(rest, 0x80);
+    let rest = &capture[at..];
+    let held = front_83(rest, information);
+    if !held.same {
+        return differs(0x83, held.place);
     }
     accepted()
 }

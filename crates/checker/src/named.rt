@@ -110,12 +110,10 @@ fn relative_place(bytes: &[u8], at: usize, ports: Ports) -> usize
     ensures { λ r. ⌜ r ≡ at + agreed (drop at (now (bytes .entry))) (relativePart ports) ⌝ }
 {
     if port::relative_chosen(ports) {
-        let head = agreement::bytes(bytes, at, &port::RELATIVE_HEAD);
-        if head < at + 6 {
-            return head;
-        }
-        let number = [(ports.relative / 256) as u8, (ports.relative % 256) as u8];
-        return agreement::bytes(bytes, at + 6, &number);
+        let high = (ports.relative / 256) as u8;
+        let low = (ports.relative % 256) as u8;
+        let descriptor = [0x61u8, 0x94u8, 0x00u8, 0x04u8, 0x00u8, 0x00u8, high, low];
+        return agreement::bytes(bytes, at, &descriptor);
     }
     at
 }

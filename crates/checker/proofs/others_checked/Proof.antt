@@ -1,96 +1,150 @@
--- `others_checked`: before turn k the fields before `at` are what they are to be.
-use mathlib.Core.Path.{sym, ap, _∙_}
-use Prim.Native.Nat.{_-_}
+-- `others_checked`: before each field, those before it are what they are to be.
+use mathlib.Core.Path.{refl, ap, _∙_}
+use Prim.Native.Nat.{ℕ, _+_}
 use native.Mathlib.Omega.{arith}
 use borrow.Author.Tests.{not-true, not-false}
 use Rattle.capture.proofs.Laws.{to-the-end}
-use Rattle.checker.specs.declared.Held.{Held}
-use Rattle.checker.proofs.Judging.{Judging, none-judged, judge-on, judge-stop, judge-end}
+use Rattle.checker.proofs.Judging.{none-judged, judge-first, judge-next, judge-fault, judge-end}
 use borrow.Author.Needs.{needs}
 use Rattle.checker.proofs.others_checked.Statement.{statement}
 use Rattle.checker.proofs.others_checked.Tie as tie
 
-abbrev Inv-loop : tie.InvT-loop
-Inv-loop capture information at₀ k₀ at k = Judging information capture at k
+front-00-requires : tie.Need-front-00-requires
+front-00-requires c κs = search needs
 
-abbrev μ-loop : tie.MeasureT-loop
-μ-loop capture information at₀ k₀ at k = 4 - k
-
-loop-holds : tie.Need-loop-holds Inv-loop μ-loop
-loop-holds c = none-judged _ _
-
-sub-rest : tie.Need-sub-rest Inv-loop μ-loop
-sub-rest c = search needs
-
-part-rest-start : tie.Need-part-rest-start Inv-loop μ-loop
-part-rest-start c = search needs
-
-part-rest-end : tie.Need-part-rest-end Inv-loop μ-loop
-part-rest-end c = search needs
-
-front-requires : tie.Need-front-requires Inv-loop μ-loop
-front-requires c κs = search needs
-
-array-read-differs : tie.Need-array-read-differs Inv-loop μ-loop
-array-read-differs c = search needs
-
-differs-requires : tie.Need-differs-requires Inv-loop μ-loop
+differs-requires : tie.Need-differs-requires
 differs-requires c κs = search needs
 
-returns : tie.Need-returns Inv-loop μ-loop
+returns : tie.Need-returns
 returns c =
-    let f = c .before .before .before in
-    let held = rw to-the-end at (f .front .ensures) in
-    let apart = ap (λ (h : Held). h .same) (sym held) ∙ not-true _ (c .before .if1 .taken) in
-    rw (c .differs .ensures, held) (judge-stop (f .before .before .before .loop .inv) (f .before .before .loop-test .taken) apart)
+    c .differs .ensures ∙ judge-fault (none-judged _ _) (omega arith) (c .before .before .before .front-00 .ensures) (not-true _ (c .before .if1 .taken))
 
-array-read-taken : tie.Need-array-read-taken Inv-loop μ-loop
-array-read-taken c = search needs
-
-taken-requires : tie.Need-taken-requires Inv-loop μ-loop
+taken-requires : tie.Need-taken-requires
 taken-requires c κs = search needs
 
-add-at : tie.Need-add-at Inv-loop μ-loop
+sub-rest : tie.Need-sub-rest
+sub-rest c = search needs
+
+part-rest-start : tie.Need-part-rest-start
+part-rest-start c = search needs
+
+part-rest-end : tie.Need-part-rest-end
+part-rest-end c = search needs
+
+front-01-requires : tie.Need-front-01-requires
+front-01-requires c κs = search needs
+
+differs-requires-2 : tie.Need-differs-requires-2
+differs-requires-2 c κs = search needs
+
+returns-2 : tie.Need-returns-2
+returns-2 c =
+    let t = c .before .before .before .before .before in
+    let w = judge-first _ _ (t .before .before .before .front-00 .ensures) (not-false _ (t .before .if1 .left)) (t .taken .ensures .0) in
+    c .differs2 .ensures ∙ judge-fault w (omega arith) (rw to-the-end at (c .before .before .before .front-01 .ensures)) (not-true _ (c .before .if2 .taken))
+
+taken-requires-2 : tie.Need-taken-requires-2
+taken-requires-2 c κs = search needs
+
+add-at : tie.Need-add-at
 add-at c = search needs
 
-add-k : tie.Need-add-k Inv-loop μ-loop
-add-k c = search needs
+sub-rest-2 : tie.Need-sub-rest-2
+sub-rest-2 c = search needs
 
-loop-less : tie.Need-loop-less Inv-loop μ-loop
-loop-less c = search needs
+part-rest-start-2 : tie.Need-part-rest-start-2
+part-rest-start-2 c = search needs
 
-loop-again : tie.Need-loop-again Inv-loop μ-loop
-loop-again c =
-    let f = c .before .before .before in
-    let held = rw to-the-end at (f .front .ensures) in
-    let same = ap (λ (h : Held). h .same) (sym held) ∙ not-false _ (c .before .if1 .left) in
-    rw (rw to-the-end at (c .taken .ensures .0)) (judge-on (f .before .before .before .loop .inv) (f .before .before .loop-test .taken) same)
+part-rest-end-2 : tie.Need-part-rest-end-2
+part-rest-end-2 c = search needs
 
-accepted-requires : tie.Need-accepted-requires Inv-loop μ-loop
+front-80-requires : tie.Need-front-80-requires
+front-80-requires c κs = search needs
+
+differs-requires-3 : tie.Need-differs-requires-3
+differs-requires-3 c κs = search needs
+
+returns-3 : tie.Need-returns-3
+returns-3 c =
+    let t2 = c .before .before .before .before .before in
+    let t = t2 .before .before .before .before .before in
+    let w = judge-first _ _ (t .before .before .before .front-00 .ensures) (not-false _ (t .before .if1 .left)) (t .taken .ensures .0) in
+    let w2 = judge-next w (omega arith) (rw to-the-end at (t2 .before .before .before .front-01 .ensures)) (not-false _ (t2 .before .if2 .left)) (ap (λ (n : ℕ). t .taken .result + n) (rw to-the-end at (t2 .taken2 .ensures .0))) in
+    c .differs3 .ensures ∙ judge-fault w2 (omega arith) (rw to-the-end at (c .before .before .before .front-80 .ensures)) (not-true _ (c .before .if3 .taken))
+
+taken-requires-3 : tie.Need-taken-requires-3
+taken-requires-3 c κs = search needs
+
+add-at-2 : tie.Need-add-at-2
+add-at-2 c = search needs
+
+sub-rest-3 : tie.Need-sub-rest-3
+sub-rest-3 c = search needs
+
+part-rest-start-3 : tie.Need-part-rest-start-3
+part-rest-start-3 c = search needs
+
+part-rest-end-3 : tie.Need-part-rest-end-3
+part-rest-end-3 c = search needs
+
+front-83-requires : tie.Need-front-83-requires
+front-83-requires c κs = search needs
+
+differs-requires-4 : tie.Need-differs-requires-4
+differs-requires-4 c κs = search needs
+
+returns-4 : tie.Need-returns-4
+returns-4 c =
+    let t3 = c .before .before .before .before .before in
+    let t2 = t3 .before .before .before .before .before in
+    let t = t2 .before .before .before .before .before in
+    let w = judge-first _ _ (t .before .before .before .front-00 .ensures) (not-false _ (t .before .if1 .left)) (t .taken .ensures .0) in
+    let w2 = judge-next w (omega arith) (rw to-the-end at (t2 .before .before .before .front-01 .ensures)) (not-false _ (t2 .before .if2 .left)) (ap (λ (n : ℕ). t .taken .result + n) (rw to-the-end at (t2 .taken2 .ensures .0))) in
+    let w3 = judge-next w2 (omega arith) (rw to-the-end at (t3 .before .before .before .front-80 .ensures)) (not-false _ (t3 .before .if3 .left)) (ap (λ (n : ℕ). t .taken .result + t2 .taken2 .result + n) (rw to-the-end at (t3 .taken3 .ensures .0))) in
+    c .differs4 .ensures ∙ judge-fault w3 (omega arith) (rw to-the-end at (c .before .before .before .front-83 .ensures)) (not-true _ (c .before .if4 .taken))
+
+accepted-requires : tie.Need-accepted-requires
 accepted-requires c κs = search needs
 
-returns-2 : tie.Need-returns-2 Inv-loop μ-loop
-returns-2 c = c .accepted .ensures ∙ judge-end (c .before .before .loop .inv) (c .before .loop-test .left)
+returns-5 : tie.Need-returns-5
+returns-5 c =
+    let t3 = c .before .before .before .before .before in
+    let t2 = t3 .before .before .before .before .before in
+    let t = t2 .before .before .before .before .before in
+    let w = judge-first _ _ (t .before .before .before .front-00 .ensures) (not-false _ (t .before .if1 .left)) (t .taken .ensures .0) in
+    let w2 = judge-next w (omega arith) (rw to-the-end at (t2 .before .before .before .front-01 .ensures)) (not-false _ (t2 .before .if2 .left)) (ap (λ (n : ℕ). t .taken .result + n) (rw to-the-end at (t2 .taken2 .ensures .0))) in
+    let w3 = judge-next w2 (omega arith) (rw to-the-end at (t3 .before .before .before .front-80 .ensures)) (not-false _ (t3 .before .if3 .left)) (ap (λ (n : ℕ). t .taken .result + t2 .taken2 .result + n) (rw to-the-end at (t3 .taken3 .ensures .0))) in
+    c .accepted .ensures ∙ judge-end (judge-next w3 (omega arith) (rw to-the-end at (c .before .before .before .front-83 .ensures)) (not-false _ (c .before .if4 .left)) refl) (omega arith)
 
 pub others-checked-spec : {M : Type 1} → statement M
 others-checked-spec =
     tie.close
     (tie.spec
-    Inv-loop
-    μ-loop
-    loop-holds
+    front-00-requires
+    differs-requires
+    returns
+    taken-requires
     sub-rest
     part-rest-start
     part-rest-end
-    front-requires
-    array-read-differs
-    differs-requires
-    returns
-    array-read-taken
-    taken-requires
+    front-01-requires
+    differs-requires-2
+    returns-2
+    taken-requires-2
     add-at
-    add-k
-    loop-less
-    loop-again
+    sub-rest-2
+    part-rest-start-2
+    part-rest-end-2
+    front-80-requires
+    differs-requires-3
+    returns-3
+    taken-requires-3
+    add-at-2
+    sub-rest-3
+    part-rest-start-3
+    part-rest-end-3
+    front-83-requires
+    differs-requires-4
+    returns-4
     accepted-requires
-    returns-2)
+    returns-5)

@@ -1,0 +1,33 @@
+-- `front_00`: the field, or none.
+use mathlib.Core.Path.{sym, _∙_}
+use Rattle.checker.specs.Check.{ours, expected}
+use Rattle.checker.specs.Helpers.{frontBeside}
+use borrow.Author.Needs.{needs}
+use Rattle.checker.proofs.front_00.Statement.{statement}
+use Rattle.checker.proofs.front_00.Tie as tie
+
+stands-requires : tie.Need-stands-requires
+stands-requires c κs = search needs
+
+content-requires : tie.Need-content-requires
+content-requires c κs = search needs
+
+supported-requires : tie.Need-supported-requires
+supported-requires c κs = search needs
+
+returns : tie.Need-returns
+unfolding frontBeside expected ours
+returns c =
+    rw (sym (c .before .before .before .stands .ensures) ∙ c .before .before .if1 .taken, ← c .before .content .ensures) (c .supported .ensures)
+
+absent-requires : tie.Need-absent-requires
+absent-requires c κs = search needs
+
+returns-2 : tie.Need-returns-2
+unfolding frontBeside
+returns-2 c =
+    rw (sym (c .before .before .stands .ensures) ∙ c .before .if1 .left) (c .absent .ensures)
+
+pub front-00-spec : {M : Type 1} → statement M
+front-00-spec =
+    tie.close (tie.spec stands-requires content-requires supported-requires returns absent-requires returns-2)
