@@ -66,6 +66,26 @@ fn put_name(room: &mut [u8], block: &[u8], behind: u8)
     texts::put_turned(room, 8, identify::name(block));
 }
 
+// The model of a drive that carries no name, turned and spaced, in room that holds it. It is written in pieces of known places, which
+// the compiler moves sixteen bytes at a time.
+fn store_model(room: &mut [u8], model: &[u8])
+    requires { ⌜ (length (now model) ≡ 40) × (56 ≤ length (now room)) ⌝ }
+    ensures { λ _. ⌜ Wrote (now (room .entry)) 16 (spaced (turned (now (model .entry)))) (now (room .exit)) ⌝ }
+{
+    texts::store_line(room, 16, model, 0);
+    texts::store_line(room, 32, model, 16);
+    texts::store_words(room, 48, model, 32, true);
+}
+
+// Its serial number, behind the model.
+fn store_serial(room: &mut [u8], serial: &[u8])
+    requires { ⌜ (length (now serial) ≡ 20) × (76 ≤ length (now room)) ⌝ }
+    ensures { λ _. ⌜ Wrote (now (room .entry)) 56 (spaced (turned (now (serial .entry)))) (now (room .exit)) ⌝ }
+{
+    texts::store_line(room, 56, serial, 0);
+    texts::store_last(room, 72, serial, 16);
+}
+
 // Head and descriptor of a drive that carries none, in room that holds them.
 fn store_texts(room: &mut [u8], block: &[u8], behind: u8)
     requires { ⌜ (length (now block) ≡ 512) × (76 ≤ length (now room)) ⌝ }
@@ -73,8 +93,8 @@ fn store_texts(room: &mut [u8], block: &[u8], behind: u8)
 {
     room::store_four(room, 0, 0x00, 0x83, 0x00, behind);
     room::store(room, 4, &TEXT_HEAD);
-    texts::store_spaced(room, 16, identify::model(block));
-    texts::store_spaced(room, 56, identify::serial(block));
+    store_model(room, identify::model(block));
+    store_serial(room, identify::serial(block));
 }
 
 // As much of it as fits.

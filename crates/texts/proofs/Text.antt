@@ -1,13 +1,15 @@
 -- Laws of turned and spaced texts, each over texts of every length.
 use mathlib.Core.Path.{_≡_, refl, ap, _∙_, sym}
 use mathlib.Core.Bool.{Bool, true, false, cond, _&&_, and-false}
-use mathlib.Core.List.{List, [], _∷_, map}
+use mathlib.Core.List.{List, [], _∷_, _++_, map}
 use Prim.Native.Nat.{ℕ, zero, suc, _+_, _-_, _*_, _%_, _<_, _≤_}
 use native.Mathlib.Nat.{le-of-suc-le-suc, not-suc-le-zero}
 use native.Mathlib.Omega.{arith}
 use lib.Dec.{eqb, eqb·suc-zero}
-use lib.ListN.{length, getD, take, drop, length-map, length-take, length-drop}
-use Rattle.room.proofs.Laws.{four}
+use lib.ListN.{length, getD, take, drop, length-map, length-take, length-drop, take-append-drop}
+use lib.Seq.{drop-drop, length-take-le}
+use Rattle.room.specs.Room.{Wrote}
+use Rattle.room.proofs.Laws.{four, Writing, turn}
 use borrow.Author.Tests.{eq-eqb, ne-eqb}
 use Rattle.texts.specs.Text.{turned, space, spaced, allSpaces, revisionPart, revision}
 use Rattle.texts.specs.Helpers.{shown}
@@ -94,6 +96,13 @@ four-words f s i even h =
     let eight : i + 4 + 4 ≡ i + 8 = omega arith in
     two-words f s i even (omega arith)
     ∙ ap (λ (t : List ℕ). f (getD s (i + 1) 0) ∷ f (getD s i 0) ∷ f (getD s (i + 3) 0) ∷ f (getD s (i + 2) 0) ∷ t) (rw (five, six, seven, eight) at (two-words f s (i + 4) (omega arith) (omega arith)))
+
+-- A turn that writes the next n bytes of a text, turned and spaced.
+pub next-piece : {r o p : List ℕ} {at i : ℕ} (n : ℕ) (text : List ℕ) → i + n ≤ length text → Writing r at (spaced (turned text)) o i → Wrote o (at + i) (take n (drop i (spaced (turned text)))) p → Writing r at (spaced (turned text)) p (i + n)
+next-piece {i = i} n text h w x =
+    let s = spaced (turned text) in
+    let size : length (take n (drop i s)) ≡ n = length-take-le n (drop i s) (rw length-drop (omega (arith, length-text space text))) in
+    turn w x (sym (take-append-drop n (drop i s)) ∙ ap (λ (t : List ℕ). take n (drop i s) ++ t) (drop-drop n i s)) (ap (λ (k : ℕ). i + k) (sym size))
 
 -- A text is all spaces where every byte is one, and is not where one byte is none.
 pub every-space : (s : List ℕ) → ((k : ℕ) → k < length s → getD s k 0 ≡ 0x20) → allSpaces s ≡ true

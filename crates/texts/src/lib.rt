@@ -44,25 +44,48 @@ pub fn put_each(room: &mut [u8], at: usize, text: &[u8], spaced: bool)
     }
 }
 
+// Four words of a text, each turned.
+fn words(text: &[u8], i: usize, spaced: bool) -> [u8; 8]
+    requires { ⌜ (i + 8 ≤ length (now text)) × (i % 2 ≡ 0) ⌝ }
+    ensures { λ r. ⌜ r ≡ take 8 (drop i (map (Text·shown spaced) (turned (now (text .entry))))) ⌝ }
+{
+    [
+        shown(spaced, text[i + 1]),
+        shown(spaced, text[i]),
+        shown(spaced, text[i + 3]),
+        shown(spaced, text[i + 2]),
+        shown(spaced, text[i + 5]),
+        shown(spaced, text[i + 4]),
+        shown(spaced, text[i + 7]),
+        shown(spaced, text[i + 6]),
+    ]
+}
+
 // Writes four words that fit, each turned. As in `room::store_four`, all are read before the first is written.
-fn store_words(room: &mut [u8], at: usize, text: &[u8], i: usize, spaced: bool)
+pub fn store_words(room: &mut [u8], at: usize, text: &[u8], i: usize, spaced: bool)
     requires { ⌜ (at + 8 ≤ length (now room)) × ((i + 8 ≤ length (now text)) × (i % 2 ≡ 0)) ⌝ }
     ensures { λ _. ⌜ Wrote (now (room .entry)) at (take 8 (drop i (map (Text·shown spaced) (turned (now (text .entry)))))) (now (room .exit)) ⌝ }
 {
-    let a = shown(spaced, text[i + 1]);
-    let b = shown(spaced, text[i]);
-    let c = shown(spaced, text[i + 3]);
-    let d = shown(spaced, text[i + 2]);
-    let e = shown(spaced, text[i + 5]);
-    let f = shown(spaced, text[i + 4]);
-    let g = shown(spaced, text[i + 7]);
-    let h = shown(spaced, text[i + 6]);
-    room::store_four(room, at, a, b, c, d);
-    room::store_four(room, at + 4, e, f, g, h);
+    let a = words(text, i, spaced);
+    room::store_four(room, at, a[0], a[1], a[2], a[3]);
+    room::store_four(room, at + 4, a[4], a[5], a[6], a[7]);
+}
+
+// Writes eight words that fit, turned, their zero bytes as spaces: sixteen bytes, which the compiler may move as one.
+pub fn store_line(room: &mut [u8], at: usize, text: &[u8], i: usize)
+    requires { ⌜ (at + 16 ≤ length (now room)) × ((i + 16 ≤ length (now text)) × (i % 2 ≡ 0)) ⌝ }
+    ensures { λ _. ⌜ Wrote (now (room .entry)) at (take 16 (drop i (spaced (turned (now (text .entry)))))) (now (room .exit)) ⌝ }
+{
+    let a = words(text, i, true);
+    let b = words(text, i + 8, true);
+    room::store_four(room, at, a[0], a[1], a[2], a[3]);
+    room::store_four(room, at + 4, a[4], a[5], a[6], a[7]);
+    room::store_four(room, at + 8, b[0], b[1], b[2], b[3]);
+    room::store_four(room, at + 12, b[4], b[5], b[6], b[7]);
 }
 
 // Writes the last two words of a text, which fit, turned, their zero bytes as spaces.
-fn store_last(room: &mut [u8], at: usize, text: &[u8], i: usize)
+pub fn store_last(room: &mut [u8], at: usize, text: &[u8], i: usize)
     requires { ⌜ (at + 4 ≤ length (now room)) × ((i + 4 ≡ length (now text)) × (i % 2 ≡ 0)) ⌝ }
     ensures { λ _. ⌜ Wrote (now (room .entry)) at (drop i (spaced (turned (now (text .entry))))) (now (room .exit)) ⌝ }
 {

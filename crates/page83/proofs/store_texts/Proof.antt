@@ -22,16 +22,16 @@ store-requires c κs = search needs
 model-requires : tie.Need-model-requires
 model-requires c κs = search needs
 
-store-spaced-requires : tie.Need-store-spaced-requires
-store-spaced-requires c κs =
+store-model-requires : tie.Need-store-model-requires
+store-model-requires c κs =
     let a = c .before .before .before .before .before .before .before .before .before .before .before .before .before in
     rw (c .model .ensures, length-model (a .args .block .now) (a .pre .0)) (omega arith, omega arith)
 
 serial-requires : tie.Need-serial-requires
 serial-requires c κs = search needs
 
-store-spaced-requires-2 : tie.Need-store-spaced-requires-2
-store-spaced-requires-2 c κs =
+store-serial-requires : tie.Need-store-serial-requires
+store-serial-requires c κs =
     let a = c .before .before .before .before .before .before .before .before .before .before .before .before .before .before .before .before .before .before in
     rw (c .serial .ensures, length-serial (a .args .block .now) (a .pre .0)) (omega arith, omega arith)
 
@@ -42,8 +42,8 @@ returns : tie.Need-returns
 returns c =
     let a = c .before .before .before .before .before .before .before .before .before .before .before .before .before .before .before .before .before .before .before .before .before in
     let vendor = beside (c .before .before .before .before .before .before .before .before .before .before .before .before .before .before .before .before .before .store-four .ensures) (c .before .before .before .before .before .before .before .before .before .before .before .before .store .ensures) refl in
-    beside (beside {t = spaced (turned (model (a .args .block .now)))} vendor (rw (c .before .before .before .before .before .before .before .before .model .ensures) at (c .before .before .before .before .before .before .before .store-spaced .ensures)) refl)
-    (rw (c .before .before .before .serial .ensures) at (c .before .before .store-spaced2 .ensures)) (omega (arith, length-model-text (a .args .block .now) (a .pre .0)))
+    beside (beside {t = spaced (turned (model (a .args .block .now)))} vendor (rw (c .before .before .before .before .before .before .before .before .model .ensures) at (c .before .before .before .before .before .before .before .store-model .ensures)) refl)
+    (rw (c .before .before .before .serial .ensures) at (c .before .before .store-serial .ensures)) (omega (arith, length-model-text (a .args .block .now) (a .pre .0)))
 
 pub store-texts-spec : {M : Type 1} → statement M
 store-texts-spec =
@@ -53,8 +53,8 @@ store-texts-spec =
     slice-aggregate-store
     store-requires
     model-requires
-    store-spaced-requires
+    store-model-requires
     serial-requires
-    store-spaced-requires-2
+    store-serial-requires
     same-length
     returns)

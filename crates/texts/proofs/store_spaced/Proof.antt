@@ -1,13 +1,11 @@
 -- `store_spaced`: four words at a time, and the last two where the text does not end behind four.
-use mathlib.Core.Path.{_≡_, refl, sym, ap, _∙_}
-use mathlib.Core.List.{List, _++_}
-use Prim.Native.Nat.{ℕ, _+_, _-_, _%_, _≤_}
+use mathlib.Core.Path.{_≡_, _∙_}
+use Prim.Native.Nat.{_-_, _%_, _≤_}
 use native.Mathlib.Omega.{arith}
-use lib.ListN.{length, take, drop, take-append-drop, length-drop}
-use lib.Seq.{drop-drop, length-take-le}
-use Rattle.room.proofs.Laws.{Writing, begin, turn, done}
+use lib.ListN.{length}
+use Rattle.room.proofs.Laws.{Writing, begin, done}
 use Rattle.texts.specs.Text.{turned, space, spaced}
-use Rattle.texts.proofs.Text.{length-text}
+use Rattle.texts.proofs.Text.{length-text, next-piece}
 use borrow.Author.Needs.{needs}
 use Rattle.texts.proofs.store_spaced.Statement.{statement}
 use Rattle.texts.proofs.store_spaced.Tie as tie
@@ -39,13 +37,8 @@ loop-less c = search needs
 loop-again : tie.Need-loop-again Inv-loop μ-loop
 loop-again c =
     let l = c .before .before .before .before .before .loop in
-    let a = c .before .before .before .before .before .before .before .before in
-    let s = spaced (turned (a .args .text .now)) in
-    let n : length (take 8 (drop (l .i) s)) ≡ 8 = length-take-le 8 (drop (l .i) s) (rw length-drop (omega (arith, length-text space (a .args .text .now)))) in (
-      turn (l .inv .0) (c .before .before .store-words .ensures)
-          (sym (take-append-drop 8 (drop (l .i) s)) ∙ ap (λ (t : List ℕ). take 8 (drop (l .i) s) ++ t) (drop-drop 8 (l .i) s)) (ap (λ (k : ℕ). l .i + k) (sym n)),
-      (omega arith, omega arith),
-    )
+    let text = c .before .before .before .before .before .before .before .before .args .text .now in
+    (next-piece 8 text (omega arith) (l .inv .0) (c .before .before .store-words .ensures), (omega arith, omega arith))
 
 add-store-last : tie.Need-add-store-last Inv-loop μ-loop
 add-store-last c = search needs
