@@ -1,2 +1,3 @@
 -- The INQUIRY entry.
 pub mod Inquiry
+pub mod Helpers

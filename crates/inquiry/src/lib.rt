@@ -1,20 +1,21 @@
 // Inquiry: the entry that answers INQUIRY, and the part that an answer shows. The rule stands in specs/Inquiry.
 use port::Ports;
 ghost use mathlib.Core.Path.{_≡_};
-ghost use mathlib.Core.Bool.{Bool, true, false};
+ghost use mathlib.Core.Bool.{Bool, false};
 ghost use mathlib.Core.List.{List};
-ghost use Prim.Native.Nat.{_≤_};
 ghost use lib.ListN.{length};
-ghost use Rattle.room.specs.Room.{Wrote};
 ghost use Rattle.port.specs.Ports.{wrongAddress};
 ghost use Rattle.page83.specs.Page83.{page83};
-ghost use Rattle.page83.specs.Helpers.{Whole};
+ghost use Rattle.pages.specs.Page.{standard, page00, page80, page89};
+ghost use Rattle.pages.specs.Helpers.{WholeOrNone};
+ghost use Rattle.packet.specs.Packet.{unusable, page00 as packetPage00};
 ghost use Rattle.refusals.specs.Refusal.{rowOf, refusedSense};
 ghost use Rattle.refusals.specs.Helpers.{Roomy};
 ghost use Rattle.inquiry_checks.specs.Request.{request};
-ghost use Rattle.inquiry_checks.specs.Helpers.{driveAsked, fromBlock, Servable};
+ghost use Rattle.inquiry_checks.specs.Helpers.{Servable};
 ghost use Rattle.inquiry_checks.specs.Asked.{page as Inquiry·page};
 ghost use Rattle.inquiry.specs.Inquiry.{outcome, inquiry as Inquiry·inquiry, part as Inquiry·part};
+ghost use Rattle.inquiry.specs.Helpers.{noRoom, filled as Helpers·filled, Answered};
 
 // What comes back: the refusal's number or 0, the status, which slice is shown (0 the drive's reply, 1 the room), and how many
 // of its bytes.
@@ -26,8 +27,127 @@ pub struct Answer {
     pub count: usize,
 }
 
-// Writes the page that is asked for, as much of it as fits.
-fn put_page(
+// Room that does not hold what is to be written of a page: 8, which has no sense bytes.
+fn no_room() -> Answer
+    ensures { λ r. ⌜ r ≡ noRoom ⌝ }
+{
+    Answer {
+        number: 8,
+        status: refusals::NONE,
+        shown: 1,
+        count: 0,
+    }
+}
+
+// n bytes of a page, which stand in the room.
+fn filled(n: usize) -> Answer
+    ensures { λ r. ⌜ r ≡ Helpers·filled n ⌝ }
+{
+    Answer {
+        number: 0,
+        status: refusals::GOOD,
+        shown: 1,
+        count: n,
+    }
+}
+
+// Standard data. Each page is served by a function of its own, so that its size is known where it is compared, and that the page which
+// is asked for is looked for once.
+fn serve_standard(room: &mut [u8], block: &[u8], allocation: usize) -> Answer
+    requires { ⌜ length (now block) ≡ 512 ⌝ }
+    ensures { λ r. ⌜ Answered (standard (now (block .entry))) allocation (now (room .entry)) r (now (room .exit)) ⌝ }
+{
+    let n = rules::lesser(pages::STANDARD_SIZE, allocation);
+    if room.len() < n {
+        return no_room();
+    }
+    pages::put_standard(&mut room[..n], block);
+    filled(n)
+}
+
+// Page 00h.
+fn serve_supported(room: &mut [u8], allocation: usize) -> Answer
+    ensures { λ r. ⌜ Answered page00 allocation (now (room .entry)) r (now (room .exit)) ⌝ }
+{
+    let n = rules::lesser(pages::SUPPORTED_SIZE, allocation);
+    if room.len() < n {
+        return no_room();
+    }
+    pages::put_supported(&mut room[..n]);
+    filled(n)
+}
+
+// Page 00h of a packet drive.
+fn serve_listed(room: &mut [u8], reply: &[u8], allocation: usize) -> Answer
+    requires { ⌜ unusable (now reply) ≡ false ⌝ }
+    ensures { λ r. ⌜ Answered (packetPage00 (now (reply .entry))) allocation (now (room .entry)) r (now (room .exit)) ⌝ }
+{
+    let n = rules::lesser(packet::size(reply), allocation);
+    if room.len() < n {
+        return no_room();
+    }
+    packet::put(&mut room[..n], reply);
+    filled(n)
+}
+
+// Page 80h.
+fn serve_serial(room: &mut [u8], block: &[u8], allocation: usize) -> Answer
+    requires { ⌜ length (now block) ≡ 512 ⌝ }
+    ensures { λ r. ⌜ Answered (page80 (now (block .entry))) allocation (now (room .entry)) r (now (room .exit)) ⌝ }
+{
+    let n = rules::lesser(pages::SERIAL_SIZE, allocation);
+    if room.len() < n {
+        return no_room();
+    }
+    pages::put_serial(&mut room[..n], block);
+    filled(n)
+}
+
+// Page 83h, whole where nothing cuts it.
+fn serve_drive(
+    room: &mut [u8],
+    block: &[u8],
+    ports: Ports,
+    address: &[u8],
+    allocation: usize,
+) -> Answer
+    requires { ⌜ (length (now block) ≡ 512) × (wrongAddress ports (now address) ≡ false) ⌝ }
+    ensures { λ r. ⌜ Answered (page83 (now (block .entry)) ports (now (address .entry))) allocation (now (room .entry)) r (now (room .exit)) ⌝ }
+{
+    let whole = page83::put_whole(room, block, ports, address, allocation);
+    if whole != 0 {
+        return filled(whole);
+    }
+    let n = rules::lesser(page83::size(block, ports), allocation);
+    if room.len() < n {
+        return no_room();
+    }
+    page83::put(&mut room[..n], block, ports, address);
+    filled(n)
+}
+
+// Page 89h.
+fn serve_information(
+    room: &mut [u8],
+    packet: bool,
+    texts: &[u8],
+    signature: &[u8],
+    block: &[u8],
+    allocation: usize,
+) -> Answer
+    requires { ⌜ (length (now texts) ≡ 28) × ((length (now signature) ≡ 20) × WholeOrNone (now block)) ⌝ }
+    ensures { λ r. ⌜ Answered (page89 packet (now (texts .entry)) (now (signature .entry)) (now (block .entry))) allocation (now (room .entry)) r (now (room .exit)) ⌝ }
+{
+    let n = rules::lesser(pages::information_size(block), allocation);
+    if room.len() < n {
+        return no_room();
+    }
+    pages::put_information(&mut room[..n], packet, texts, signature, block);
+    filled(n)
+}
+
+// Serves the page that is asked for.
+fn serve_page(
     room: &mut [u8],
     command: &[u8],
     block: &[u8],
@@ -36,52 +156,28 @@ fn put_page(
     reply: &[u8],
     ports: Ports,
     address: &[u8],
-)
+    allocation: usize,
+) -> Answer
     requires { ⌜ Servable (request (now command) (now block) (now signature) (now texts) (now reply) ports (now address)) ⌝ }
-    ensures { λ _. ⌜ Wrote (now (room .entry)) 0 (Inquiry·page (request (now (command .entry)) (now (block .entry)) (now (signature .entry)) (now (texts .entry)) (now (reply .entry)) ports (now (address .entry)))) (now (room .exit)) ⌝ }
+    ensures { λ r. ⌜ Answered (Inquiry·page (request (now (command .entry)) (now (block .entry)) (now (signature .entry)) (now (texts .entry)) (now (reply .entry)) ports (now (address .entry)))) allocation (now (room .entry)) r (now (room .exit)) ⌝ }
 {
     let packet = packet::packet_drive(signature);
     if inquiry_checks::standard_asked(packet, command) {
-        pages::put_standard(room, block);
-        return;
+        return serve_standard(room, block, allocation);
     }
     if command[2] == 0x00 {
         if packet {
-            packet::put(room, reply);
-            return;
+            return serve_listed(room, reply, allocation);
         }
-        pages::put_supported(room);
-        return;
+        return serve_supported(room, allocation);
     }
     if command[2] == 0x80 {
-        pages::put_serial(room, block);
-        return;
+        return serve_serial(room, block, allocation);
     }
     if command[2] == 0x83 {
-        page83::put(room, block, ports, address);
-        return;
+        return serve_drive(room, block, ports, address, allocation);
     }
-    pages::put_information(room, packet, texts, signature, block);
-}
-
-// Writes page 83h where it is asked for and neither the allocation length nor the room cuts it: then its size comes back, and else 0.
-fn put_whole_page83(
-    room: &mut [u8],
-    packet: bool,
-    command: &[u8],
-    block: &[u8],
-    ports: Ports,
-    address: &[u8],
-    allocation: usize,
-) -> usize
-    requires { ⌜ (6 ≤ length (now command)) × ((fromBlock packet (now command) ≡ true → length (now block) ≡ 512) × (wrongAddress ports (now address) ≡ false)) ⌝ }
-    ensures asked { λ r. ⌜ ((r ≡ 0 → ⊥) → driveAsked packet (now (command .entry)) ≡ true) ⌝ }
-    ensures page { λ r. ⌜ Whole (page83 (now (block .entry)) ports (now (address .entry))) allocation (now (room .entry)) r (now (room .exit)) ⌝ }
-{
-    if inquiry_checks::drive_asked(packet, command) {
-        return page83::put_whole(room, block, ports, address, allocation);
-    }
-    0
+    serve_information(room, packet, texts, signature, block, allocation)
 }
 
 // A refusal: an empty part of the room, and the sense bytes of its row.
@@ -137,28 +233,8 @@ pub fn inquiry(
             count: rules::lesser(reply.len(), allocation),
         };
     }
-    let whole = put_whole_page83(room, packet, command, block, ports, address, allocation);
-    if whole != 0 {
-        return Answer {
-            number: 0,
-            status: refusals::GOOD,
-            shown: 1,
-            count: whole,
-        };
-    }
-    let size = inquiry_checks::size(packet, command, block, reply, ports);
-    let n = rules::lesser(size, allocation);
-    // 8 has no sense bytes
-    if room.len() < n {
-        return Answer {
-            number: 8,
-            status: refusals::NONE,
-            shown: 1,
-            count: 0,
-        };
-    }
-    put_page(
-        &mut room[..n],
+    serve_page(
+        room,
         command,
         block,
         signature,
@@ -166,13 +242,8 @@ pub fn inquiry(
         reply,
         ports,
         address,
-    );
-    Answer {
-        number: 0,
-        status: refusals::GOOD,
-        shown: 1,
-        count: n,
-    }
+        allocation,
+    )
 }
 
 // The part that an answer shows, of the drive's reply or of the room: which one is the number decided before.

@@ -1,30 +1,22 @@
--- Laws of the INQUIRY entry: what the checks leave true once they have passed, and the page's size.
+-- Laws of the INQUIRY entry: what the checks leave true once they have passed.
 use mathlib.Core.Path.{_≡_, refl, sym, _∙_}
-use mathlib.Core.Bool.{Bool, true, false, cond, _&&_, _||_, not, and-eq-true-iff, and-false, or-true, true≢false}
+use mathlib.Core.Bool.{Bool, true, false, cond, _&&_, _||_, not, and-eq-true-iff, true≢false}
 use mathlib.Core.List.{List}
-use Prim.Native.Nat.{ℕ, _+_, _≤_}
+use Prim.Native.Nat.{ℕ, _≤_}
 use lib.Dec.{eqb, ltb}
 use lib.ListN.{length, take, drop}
 use borrow.Author.Tests.{eq-eqb, ne-eqb, eqb-true, eqb-false, ltb-false, not-false}
 use Rattle.rules.proofs.First.{silent, neither, first-answers, second-answers}
 use Rattle.refusals.specs.Helpers.{Roomy}
 use Rattle.refusals.proofs.Table.{roomy-unless}
-use Rattle.pages.specs.Page.{page00, page89, blockOrZeros}
-use Rattle.pages.proofs.Laws.{length-page89}
 use Rattle.port.specs.declared.Ports.{Ports}
 use Rattle.port.specs.Ports.{wrongAddress}
-use Rattle.page83.specs.Page83.{page83}
-use Rattle.page83.proofs.Laws.{page-size}
 use Rattle.packet.specs.Packet.{unusable}
 use Rattle.inquiry_fields.specs.Fields.{evpd, cmddt, pageCode}
 use Rattle.inquiry_checks.specs.Request.{Request, isPacket, passesThrough}
 use Rattle.inquiry_checks.specs.Checks.{wrongSize, checks, refusalOf}
-use Rattle.inquiry_checks.specs.Asked.{page, toWrite}
-use Rattle.inquiry_checks.specs.Helpers.{driveAsked, sizeOf, earlyRefusal, Servable}
-
-length-cond : (b : Bool) (x y : List ℕ) → length (cond b x y) ≡ cond b (length x) (length y)
-length-cond true x y = refl
-length-cond false x y = refl
+use Rattle.inquiry_checks.specs.Asked.{toWrite}
+use Rattle.inquiry_checks.specs.Helpers.{earlyRefusal, Servable}
 
 -- The sizes, where check 1 does not apply.
 pub record Sized (block signature texts : List ℕ) (ports : Ports) (address : List ℕ) (sense : ℕ) : Type 0 where
@@ -50,25 +42,6 @@ sized block signature texts ports address sense e =
       right-address = u .1;
       enough = ltb-false _ _ (s .1);
     }
-
--- Where page 83h is asked for, it is the page.
-pub drive-page : (q : Request) → driveAsked (isPacket q) (q .command) ≡ true → page q ≡ page83 (q .block) (q .ports) (q .address)
-unfolding page
-drive-page q h =
-    let asked = and-eq-true-iff (evpd (q .command)) _ .0 (and-eq-true-iff (not (isPacket q)) _ .0 h .1) in
-    rw (asked .0, and-false (not (isPacket q)), eqb-true (pageCode (q .command)) 0x83 (asked .1))
-
--- The page's size does not hang on what the texts and the signature say.
-pub length-page : (q : Request) → Servable q → length (page q) ≡ sizeOf (isPacket q) (q .command) (q .block) (q .reply) (q .ports)
-unfolding page sizeOf page00
-length-page q s = by (eqb (pageCode (q .command)) 0x83) refl
-  where
-    information : length (page89 (isPacket q) (q .texts) (q .signature) (q .block)) ≡ 60 + length (blockOrZeros (q .block))
-    information = length-page89 (isPacket q) (q .texts) (q .signature) (q .block) (s .texts) (s .signature)
-
-    by : (t : Bool) → eqb (pageCode (q .command)) 0x83 ≡ t → length (page q) ≡ sizeOf (isPacket q) (q .command) (q .block) (q .reply) (q .ports)
-    by true e = simp (length-cond, information, page-size (q .block) (q .ports) (q .address) (s .block (rw (e, or-true))) (s .address))
-    by false e = simp (e, length-cond, information)
 
 -- A refusal that writes has room for it.
 pub roomy : (q : Request) (sense : ℕ) {number : ℕ} → number ≡ earlyRefusal q sense → Roomy number sense

@@ -1,17 +1,15 @@
 -- No rules: names for contracts of functions below the entry.
 use mathlib.Core.Path.{_≡_}
-use mathlib.Core.Bool.{Bool, true, false, cond, _&&_, _||_, not}
+use mathlib.Core.Bool.{Bool, true, false, _&&_, _||_, not}
 use mathlib.Core.List.{List, []}
-use Prim.Native.Nat.{ℕ, _+_, _≤_}
+use Prim.Native.Nat.{ℕ, _≤_}
 use lib.Dec.{eqb}
 use lib.ListN.{length, take, drop}
 use Rattle.rules.specs.First.{first}
 use Rattle.port.specs.declared.Ports.{Ports}
 use Rattle.port.specs.Ports.{wrongAddress}
-use Rattle.page83.specs.Helpers.{pageSize}
-use Rattle.pages.specs.Page.{standard, page80, blockOrZeros}
 use Rattle.pages.specs.Helpers.{WholeOrNone}
-use Rattle.packet.specs.Packet.{unusable, page00 as packetPage00}
+use Rattle.packet.specs.Packet.{unusable}
 use Rattle.inquiry_fields.specs.Fields.{evpd, pageCode}
 use Rattle.inquiry_checks.specs.Request.{Request, request, isPacket}
 use Rattle.inquiry_checks.specs.Checks.{checks}
@@ -19,15 +17,6 @@ use Rattle.inquiry_checks.specs.Checks.{checks}
 -- Whether page 83h is asked for.
 abbrev pub driveAsked : Bool → List ℕ → Bool
 driveAsked packet command = not packet && (evpd command && eqb (pageCode command) 0x83)
-
--- The size of the page that is asked for, which looks at fewer of the lent pieces than the page.
-unfoldable pub sizeOf : Bool → List ℕ → List ℕ → List ℕ → Ports → ℕ
-sizeOf packet command block reply ports =
-    cond (not packet && not (evpd command)) (length (standard block))
-    (cond (eqb (pageCode command) 0x00) (cond packet (length (packetPage00 reply)) 8)
-    (cond (eqb (pageCode command) 0x80) (length (page80 block))
-    (cond (eqb (pageCode command) 0x83) (pageSize block ports)
-    (60 + length (blockOrZeros block)))))
 
 -- Whether the page is made of the block.
 abbrev pub fromBlock : Bool → List ℕ → Bool

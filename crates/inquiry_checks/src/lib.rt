@@ -1,4 +1,4 @@
-// Inquiry checks: what is asked of INQUIRY, the size of its page, and the checks, one function each; `fault` runs them in the table's
+// Inquiry checks: what is asked of INQUIRY, and the checks, one function each; `fault` runs them in the table's
 // order. The rules stand in specs/: Request, Asked and Checks.
 use port::Ports;
 ghost use mathlib.Core.Path.{_≡_};
@@ -10,7 +10,7 @@ ghost use lib.ListN.{length};
 ghost use Rattle.inquiry_fields.specs.Fields.{evpd};
 ghost use Rattle.inquiry_checks.specs.Request.{request, passesThrough};
 ghost use Rattle.inquiry_checks.specs.Checks.{wrongSize, wrongField, knownPage, wrongPage, noBlock, noPort, noList};
-ghost use Rattle.inquiry_checks.specs.Helpers.{driveAsked, fromBlock, sizeOf, commandRefusal, earlyRefusal};
+ghost use Rattle.inquiry_checks.specs.Helpers.{driveAsked, commandRefusal, earlyRefusal};
 
 // Neither 512 bytes nor none.
 fn wrong_block(block: usize) -> bool
@@ -42,10 +42,14 @@ fn wrong_size(
     if texts.len() != 28 {
         return true;
     }
-    if port::wrong_address(ports, address) {
+    if sense < 22 {
         return true;
     }
-    sense < 22
+    // Most calls choose no port, and then the address is not looked at.
+    if port::chosen(ports) {
+        return port::wrong_address(ports, address);
+    }
+    false
 }
 
 // 4: NACA, CMDDT, or a page code without EVPD.
@@ -119,7 +123,7 @@ fn no_block(packet: bool, command: &[u8], block: &[u8]) -> bool
 }
 
 // Whether page 83h is asked for.
-pub fn drive_asked(packet: bool, command: &[u8]) -> bool
+fn drive_asked(packet: bool, command: &[u8]) -> bool
     requires { ⌜ 6 ≤ length (now command) ⌝ }
     ensures { λ r. ⌜ r ≡ driveAsked packet (now (command .entry)) ⌝ }
 {
@@ -189,29 +193,6 @@ pub fn standard_asked(packet: bool, command: &[u8]) -> bool
         return false;
     }
     !inquiry_fields::evpd(command)
-}
-
-// The size of the page that is asked for.
-pub fn size(packet: bool, command: &[u8], block: &[u8], reply: &[u8], ports: Ports) -> usize
-    requires { ⌜ (6 ≤ length (now command)) × (fromBlock packet (now command) ≡ true → length (now block) ≡ 512) ⌝ }
-    ensures { λ r. ⌜ r ≡ sizeOf packet (now (command .entry)) (now (block .entry)) (now (reply .entry)) ports ⌝ }
-{
-    if standard_asked(packet, command) {
-        return pages::STANDARD_SIZE;
-    }
-    if command[2] == 0x00 {
-        if packet {
-            return packet::size(reply);
-        }
-        return 8;
-    }
-    if command[2] == 0x80 {
-        return pages::SERIAL_SIZE;
-    }
-    if command[2] == 0x83 {
-        return page83::size(block, ports);
-    }
-    pages::information_size(block)
 }
 
 // The number of the first check of a whole command that applies, and 0 where none does.

@@ -77,6 +77,8 @@ pub fn put_supported(room: &mut [u8])
     room::put_short(room, 0, &SUPPORTED);
 }
 
+pub const SUPPORTED_SIZE: usize = 8;
+
 // What page 80h starts with: PAGE CODE, PAGE LENGTH.
 pub const SERIAL_HEAD: [u8; 4] = [0x00, 0x80, 0x00, 0x14];
 
