@@ -7,7 +7,7 @@ use Prim.Native.Nat.{ℕ, zero, suc, _+_, _-_, _<_, _≤_}
 use native.Mathlib.Nat.{eq-or-lt-of-le, lt-of-not-le, eq-zero-or-pos, zero-add, suc-add}
 use native.Mathlib.Omega.{arith}
 use lib.Dec.{eqb, ltb}
-use lib.ListN.{length, getD, take, drop, length-take, List·getD-eq-default}
+use lib.ListN.{length, getD, take, drop, length-append, length-take, length-drop, List·getD-eq-default}
 use lib.Seq.{drop-nil}
 use borrow.Author.Tests.{lt-ltb, le-ltb, ltb-true, eq-eqb, ne-eqb, eqb-true}
 use Rattle.packet.specs.Packet.{listed, rising, has89, with89, unusable}
@@ -63,9 +63,13 @@ inserted b (a ∷ s) e =
     (eq-zero-or-pos (0x89 - a))
 
 -- So with 89h, whose place is i, a list is the codes before i, 89h, and the codes from i on, but not the one at i where that
--- is 89h (b).
-pub split : (b : Bool) (s : List ℕ) {i : ℕ} → i ≡ below89 s → eqb (getD s i 0) 0x89 ≡ b → with89 s ≡ take (below89 s) s ++ 0x89 ∷ drop (i + counted b) s
-split b s p e = rw p (inserted b s (rw p at e))
+-- is 89h (b); and it is one longer, but where it has 89h there.
+module _ (b : Bool) (s : List ℕ) {i : ℕ} (place : i ≡ below89 s) (has : eqb (getD s i 0) 0x89 ≡ b) where
+  pub split : with89 s ≡ take i s ++ 0x89 ∷ drop (i + counted b) s
+  split = rw place (inserted b s (rw place at has))
+
+  pub length-split : i + counted b ≤ length s → length (with89 s) + counted b ≡ suc (length s)
+  length-split h = rw split (simp (length-append, length-take, length-drop) (omega arith))
 
 -- What is left of a rising list without its first code rises.
 rising-tail : (a : ℕ) (s : List ℕ) → rising (a ∷ s) ≡ true → rising s ≡ true

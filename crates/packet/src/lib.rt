@@ -6,7 +6,7 @@ ghost use Prim.Native.Nat.{_+_, _<_, _≤_};
 ghost use lib.ListN.{length, getD, take, drop};
 ghost use Rattle.room.specs.Room.{Wrote};
 ghost use Rattle.packet.specs.Packet.{packetDrive, listed as Packet·listed, rising as Packet·rising, with89, unusable as Packet·unusable, page00};
-ghost use Rattle.packet.specs.Helpers.{below89};
+ghost use Rattle.packet.specs.Helpers.{Place};
 
 // Whether a signature is a packet drive's.
 pub fn packet_drive(signature: &[u8]) -> bool
@@ -26,16 +26,23 @@ fn told(reply: &[u8]) -> usize
 fn listed(reply: &[u8]) -> &[u8]
     ensures { λ r. ⌜ now r ≡ Packet·listed (now (reply .entry)) ⌝ }
 {
-    rules::part(reply, 4, 4 + told(reply))
+    let n = told(reply);
+    if 4 + n <= reply.len() {
+        return &reply[4..4 + n];
+    }
+    if 4 <= reply.len() {
+        return &reply[4..];
+    }
+    &reply[..0]
 }
 
 // Whether a list rises strictly.
 fn rising(codes: &[u8]) -> bool
     ensures { λ r. ⌜ r ≡ Packet·rising (now (codes .entry)) ⌝ }
 {
-    let mut i = 0;
-    while i + 1 < codes.len() {
-        if codes[i + 1] <= codes[i] {
+    let mut i = 1;
+    while i < codes.len() {
+        if codes[i] <= codes[i - 1] {
             return false;
         }
         i += 1;
@@ -45,7 +52,7 @@ fn rising(codes: &[u8]) -> bool
 
 // How many codes stand before the place of 89h.
 fn place(codes: &[u8]) -> usize
-    ensures { λ r. ⌜ (r ≡ below89 (now (codes .entry))) × (r ≤ length (now (codes .entry))) ⌝ }
+    ensures { λ r. ⌜ Place (now (codes .entry)) r ⌝ }
 {
     let mut i = 0;
     while i < codes.len() {
@@ -58,22 +65,26 @@ fn place(codes: &[u8]) -> usize
 }
 
 // Where the codes behind 89h begin: past the place of 89h, and past 89h itself where the list has it.
-fn behind(codes: &[u8]) -> usize
-    ensures { λ r. ⌜ with89 (now (codes .entry)) ≡ take (below89 (now (codes .entry))) (now (codes .entry)) ++ 0x89 ∷ drop r (now (codes .entry)) ⌝ }
-    ensures { λ r. ⌜ (below89 (now (codes .entry)) ≤ r) × (r ≤ length (now (codes .entry))) ⌝ }
+fn behind(codes: &[u8], at: usize) -> usize
+    requires { ⌜ Place (now codes) at ⌝ }
+    ensures { λ r. ⌜ with89 (now (codes .entry)) ≡ take at (now (codes .entry)) ++ 0x89 ∷ drop r (now (codes .entry)) ⌝ }
+    ensures { λ r. ⌜ (at ≤ r) × (r ≤ length (now (codes .entry))) ⌝ }
 {
-    let at = place(codes);
     if rules::byte(codes, at) == 0x89 {
         return at + 1;
     }
     at
 }
 
-// How many codes the list has with 89h put into it.
-fn count(codes: &[u8]) -> usize
+// How many codes the list has with 89h, whose place is known: one more, but where it has 89h already.
+fn count(codes: &[u8], at: usize) -> usize
+    requires { ⌜ Place (now codes) at ⌝ }
     ensures { λ r. ⌜ (r ≡ length (with89 (now (codes .entry)))) × (r ≤ length (now (codes .entry)) + 1) ⌝ }
 {
-    place(codes) + 1 + (codes.len() - behind(codes))
+    if rules::byte(codes, at) == 0x89 {
+        return codes.len();
+    }
+    codes.len() + 1
 }
 
 // Whether the drive's own page 00h cannot be used. A list of 255 codes without 89h is one that 89h makes longer than 255.
@@ -93,22 +104,26 @@ pub fn unusable(reply: &[u8]) -> bool
     if !rising(codes) {
         return true;
     }
-    255 < count(codes)
+    if codes.len() < 255 {
+        return false;
+    }
+    255 < count(codes, place(codes))
 }
 
 // The size of the page that is made of the drive's own.
 pub fn size(reply: &[u8]) -> usize
     ensures { λ r. ⌜ r ≡ length (page00 (now (reply .entry))) ⌝ }
 {
-    4 + count(listed(reply))
+    let codes = listed(reply);
+    4 + count(codes, place(codes))
 }
 
-// Writes the codes with 89h among them, behind the page's four first bytes.
-fn put_codes(room: &mut [u8], codes: &[u8])
+// Writes the codes with 89h among them, at its place, behind the page's four first bytes.
+fn put_codes(room: &mut [u8], codes: &[u8], at: usize)
+    requires { ⌜ Place (now codes) at ⌝ }
     ensures { λ _. ⌜ Wrote (now (room .entry)) 4 (with89 (now (codes .entry))) (now (room .exit)) ⌝ }
 {
-    let at = place(codes);
-    let rest = behind(codes);
+    let rest = behind(codes, at);
     room::put(room, 4, &codes[..at]);
     room::put_byte(room, 4, at, 0x89);
     room::put(room, 5 + at, &codes[rest..]);
@@ -120,7 +135,8 @@ pub fn put(room: &mut [u8], reply: &[u8])
     ensures { λ _. ⌜ Wrote (now (room .entry)) 0 (page00 (now (reply .entry))) (now (room .exit)) ⌝ }
 {
     let codes = listed(reply);
-    let n = count(codes);
+    let at = place(codes);
+    let n = count(codes, at);
     let head = [
         rules::byte(reply, 0),
         0x00u8,
@@ -128,5 +144,5 @@ pub fn put(room: &mut [u8], reply: &[u8])
         n as u8,
     ];
     room::put_short(room, 0, &head);
-    put_codes(room, codes);
+    put_codes(room, codes, at);
 }

@@ -9,9 +9,6 @@ use borrow.Author.Needs.{needs}
 use Rattle.packet.proofs.behind.Statement.{statement}
 use Rattle.packet.proofs.behind.Tie as tie
 
-place-requires : tie.Need-place-requires
-place-requires c κs = search needs
-
 byte-requires : tie.Need-byte-requires
 byte-requires c κs = search needs
 
@@ -20,16 +17,15 @@ add-result c = search needs
 
 returns : tie.Need-returns
 returns c =
-    let at = c .before .before .place in
-    let s = c .before .before .before .before .args .codes .now in
+    let a = c .before .before .before in
     let e = sym (c .before .byte .ensures) ∙ c .if1 .taken in
-    (split true _ (at .ensures .0) (eq-eqb _ _ e), (omega arith, omega (arith, within s (at .result) 0x88 e)))
+    (split true (a .args .codes .now) (a .pre .0) (eq-eqb _ _ e), (omega arith, omega (arith, within (a .args .codes .now) (a .args .at) 0x88 e)))
 
 returns-2 : tie.Need-returns-2
 returns-2 c =
-    let at = c .before .before .place in
+    let a = c .before .before .before in
     let e = ne-eqb _ _ (λ e. c .if1 .left (c .before .byte .ensures ∙ e)) in
-    (rw add-zero at (split false _ (at .ensures .0) e), search needs)
+    (rw add-zero at (split false (a .args .codes .now) (a .pre .0) e), search needs)
 
 pub behind-spec : {M : Type 1} → statement M
-behind-spec = tie.close (tie.spec place-requires byte-requires add-result returns returns-2)
+behind-spec = tie.close (tie.spec byte-requires add-result returns returns-2)

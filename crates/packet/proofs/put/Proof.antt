@@ -11,6 +11,9 @@ use Rattle.packet.proofs.put.Tie as tie
 listed-requires : tie.Need-listed-requires
 listed-requires c κs = search needs
 
+place-requires : tie.Need-place-requires
+place-requires c κs = search needs
+
 count-requires : tie.Need-count-requires
 count-requires c κs = search needs
 
@@ -20,13 +23,13 @@ byte-requires c κs = search needs
 byte-requires-2 : tie.Need-byte-requires-2
 byte-requires-2 c κs = search needs
 
-cast-t8 : tie.Need-cast-t8
-cast-t8 c =
+cast-t9 : tie.Need-cast-t9
+cast-t9 c =
     let n = c .before .before in
-    let l = n .before .before in
+    let l = n .before .before .before in
     let a = l .before .before in
     let byte = l .shared-slice-known .given 3 .fits in
-    omega (arith, rw (n .before .listed .ensures) at (n .count .ensures .0), length-fits (a .args .reply .now) byte (a .pre))
+    omega (arith, rw (n .before .before .listed .ensures) at (n .count .ensures .0), length-fits (a .args .reply .now) byte (a .pre))
 
 slice-aggregate-put-short : tie.Need-slice-aggregate-put-short
 slice-aggregate-put-short c = search needs
@@ -46,7 +49,7 @@ returns c =
     let p = c .before .before .before .before .before .before in
     let b = p .before .before .before in
     let n = b .before .before in
-    rw (← n .before .listed .ensures, ← n .count .ensures .0, ← b .before .byte .ensures, ← b .byte2 .ensures)
+    rw (← n .before .before .listed .ensures, ← n .count .ensures .0, ← b .before .byte .ensures, ← b .byte2 .ensures)
     (beside (p .put-short .ensures) (c .before .before .put-codes .ensures) refl)
 
 pub put-spec : {M : Type 1} → statement M
@@ -54,10 +57,11 @@ put-spec =
     tie.close
     (tie.spec
     listed-requires
+    place-requires
     count-requires
     byte-requires
     byte-requires-2
-    cast-t8
+    cast-t9
     slice-aggregate-put-short
     put-short-requires
     put-codes-requires

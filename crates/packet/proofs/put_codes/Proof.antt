@@ -9,14 +9,11 @@ use borrow.Author.Needs.{needs}
 use Rattle.packet.proofs.put_codes.Statement.{statement}
 use Rattle.packet.proofs.put_codes.Tie as tie
 
-place-requires : tie.Need-place-requires
-place-requires c κs = search needs
-
 behind-requires : tie.Need-behind-requires
 behind-requires c κs = search needs
 
 slice-aggregate-put : tie.Need-slice-aggregate-put
-slice-aggregate-put c = sym (length-take-le _ _ (c .before .before .before .place .ensures .1))
+slice-aggregate-put c = sym (length-take-le _ _ (c .before .before .before .before .before .pre .1))
 
 put-requires : tie.Need-put-requires
 put-requires c κs = search needs
@@ -48,19 +45,18 @@ returns c =
     let h = t .before .before .before .before .before in
     let p = h .before .before .before .before in
     let b = p .before .before .before in
-    let at = b .before .place in
-    let s = b .before .before .before .before .args .codes .now in
-    let l = length-take-le (at .result) s (at .ensures .1) in
+    let a = b .before .before .before in
+    let s = a .args .codes .now in
+    let l = length-take-le (a .args .at) s (a .pre .1) in
     let m = length-drop (b .behind .result) s in
     let rest = rw (take-all (length s - b .behind .result) (drop (b .behind .result) s) (omega arith)) at (t .put2 .ensures) in
-    rw (b .behind .ensures .0, ← at .ensures .0)
+    rw (b .behind .ensures .0)
     (beside (p .put .ensures) (beside (h .put-byte .ensures) rest (omega arith)) (omega arith))
 
 pub put-codes-spec : {M : Type 1} → statement M
 put-codes-spec =
     tie.close
     (tie.spec
-    place-requires
     behind-requires
     slice-aggregate-put
     put-requires

@@ -1,7 +1,6 @@
--- `rising`: every code passed is below the next.
-use mathlib.Core.Path.{sym}
+-- `rising`: every code passed is above the one before it.
+use mathlib.Core.Path.{_≡_, sym}
 use Prim.Native.Nat.{ℕ, suc, _≤_, _<_, _-_}
-use native.Mathlib.Numerals.{add-one}
 use native.Mathlib.Omega.{arith}
 use lib.ListN.{length, getD}
 use borrow.Author.Count.{below-more}
@@ -11,22 +10,19 @@ use Rattle.packet.proofs.rising.Statement.{statement}
 use Rattle.packet.proofs.rising.Tie as tie
 
 abbrev Inv-loop : tie.InvT-loop
-Inv-loop codes i₀ i = (i ≤ length codes) × ((k : ℕ) → k < i → getD codes k 0 < getD codes (suc k) 0)
+Inv-loop codes i₀ i = (1 ≤ i) × ((k : ℕ) → k < i → 1 ≤ k → getD codes (k - 1) 0 < getD codes k 0)
 
 abbrev μ-loop : tie.MeasureT-loop
 μ-loop codes i₀ i = length codes - i
 
 loop-holds : tie.Need-loop-holds Inv-loop μ-loop
-loop-holds c = search needs
-
-add-loop : tie.Need-add-loop Inv-loop μ-loop
-add-loop c = search needs
-
-add-if1 : tie.Need-add-if1 Inv-loop μ-loop
-add-if1 c = search needs
+loop-holds c = (omega arith, λ k h p. absurd (omega arith))
 
 shared-slice-read-if1 : tie.Need-shared-slice-read-if1 Inv-loop μ-loop
 shared-slice-read-if1 c = search needs
+
+sub-if1 : tie.Need-sub-if1 Inv-loop μ-loop
+sub-if1 c = search needs
 
 shared-slice-read-if1-2 : tie.Need-shared-slice-read-if1-2 Inv-loop μ-loop
 shared-slice-read-if1-2 c = search needs
@@ -34,7 +30,9 @@ shared-slice-read-if1-2 c = search needs
 returns : tie.Need-returns Inv-loop μ-loop
 returns c =
     let w = c .before .before .before .before in
-    sym (falls-at (w .before .args .codes .now) (w .loop .i) (omega arith) (omega (arith, rw add-one at (c .if1 .taken))))
+    let i = w .loop .i in
+    let one : suc (i - 1) ≡ i = omega arith in
+    sym (falls-at (w .before .args .codes .now) (i - 1) (omega arith) (rw one (c .if1 .taken)))
 
 add-i : tie.Need-add-i Inv-loop μ-loop
 add-i c = search needs
@@ -44,11 +42,11 @@ loop-less c = search needs
 
 loop-again : tie.Need-loop-again Inv-loop μ-loop
 loop-again c =
-    (search needs, below-more _ _ (c .before .before .before .before .loop .inv .1) (rw add-one at (c .if1 .left)))
+    (omega arith, below-more _ _ (c .before .before .before .before .loop .inv .1) (λ p. c .if1 .left))
 
 returns-2 : tie.Need-returns-2 Inv-loop μ-loop
 returns-2 c =
-    sym (rises (c .before .before .args .codes .now) (λ k h. c .before .loop .inv .1 k (omega arith)))
+    sym (rises (c .before .before .args .codes .now) (λ k h. let one : suc k - 1 ≡ k = omega arith in rw one at (c .before .loop .inv .1 (suc k) (omega arith) (omega arith))))
 
 pub rising-spec : {M : Type 1} → statement M
 rising-spec =
@@ -57,9 +55,8 @@ rising-spec =
     Inv-loop
     μ-loop
     loop-holds
-    add-loop
-    add-if1
     shared-slice-read-if1
+    sub-if1
     shared-slice-read-if1-2
     returns
     add-i

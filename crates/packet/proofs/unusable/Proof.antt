@@ -2,6 +2,7 @@
 use mathlib.Core.Path.{sym, _∙_}
 use mathlib.Core.Bool.{or-true}
 use native.Mathlib.Omega.{arith}
+use lib.ListN.{length}
 use borrow.Author.Tests.{lt-ltb, le-ltb, eq-eqb, ne-eqb, not-false}
 use Rattle.packet.specs.Packet.{unusable}
 use Rattle.packet.proofs.Laws.{listed-at-most, too-long}
@@ -41,9 +42,6 @@ unfolding unusable
 returns-4 c =
     rw (← c .before .before .listed .ensures, ← c .before .rising .ensures, c .if4 .taken, or-true)
 
-count-requires : tie.Need-count-requires
-count-requires c κs = search needs
-
 returns-5 : tie.Need-returns-5
 unfolding unusable
 returns-5 c =
@@ -55,6 +53,26 @@ returns-5 c =
     let zero = eq-eqb _ _ (sym (b .byte .ensures) ∙ t .before .if2 .left) in
     let whole = le-ltb _ _ (rw (t .told .ensures .0) at (l .before .if3 .left)) in
     let rises = sym (r .rising .ensures) ∙ not-false _ (c .before .if4 .left) in
+    rw (four, zero, whole, ← l .listed .ensures, rises, ne-eqb (length (l .listed .result .now)) 255 (λ e. omega arith))
+
+place-requires : tie.Need-place-requires
+place-requires c κs = search needs
+
+count-requires : tie.Need-count-requires
+count-requires c κs = search needs
+
+returns-6 : tie.Need-returns-6
+unfolding unusable
+returns-6 c =
+    let f = c .before .before .before in
+    let r = f .before in
+    let l = r .before in
+    let t = l .before .before in
+    let b = t .before .before in
+    let four = le-ltb _ _ (b .before .if1 .left) in
+    let zero = eq-eqb _ _ (sym (b .byte .ensures) ∙ t .before .if2 .left) in
+    let whole = le-ltb _ _ (rw (t .told .ensures .0) at (l .before .if3 .left)) in
+    let rises = sym (r .rising .ensures) ∙ not-false _ (f .if4 .left) in
     let few = rw (← l .listed .ensures) at (listed-at-most (b .before .before .before .args .reply .now)) in
     rw (four, zero, whole, ← l .listed .ensures, rises, c .count .ensures .0) (too-long (l .listed .result .now) rises (omega arith))
 
@@ -71,5 +89,7 @@ unusable-spec =
     listed-requires
     rising-requires
     returns-4
+    returns-5
+    place-requires
     count-requires
-    returns-5)
+    returns-6)
