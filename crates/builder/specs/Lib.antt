@@ -2,3 +2,4 @@
 pub mod Fields
 pub mod Buildable
 pub mod Builder
+pub mod Helpers

@@ -3,7 +3,8 @@ use crate::fields;
 use passthrough_order::Order;
 use passthrough_order::read;
 ghost use mathlib.Core.Path.{_≡_};
-ghost use Rattle.builder.specs.Buildable.{every, withoutUpper, hasDirection, dataFit, ofCommand, ofReset, buildable as Buildable·buildable};
+ghost use Rattle.builder.specs.Buildable.{every, withoutUpper, hasDirection, ofReset, buildable as Buildable·buildable};
+ghost use Rattle.builder.specs.Helpers.{protocolFit};
 
 // No register has an upper byte.
 fn without_upper(order: Order) -> bool
@@ -14,38 +15,6 @@ fn without_upper(order: Order) -> bool
         & (order.lba_low < 256)
         & (order.lba_mid < 256)
         & (order.lba_high < 256)
-}
-
-// The protocol's data can go in this direction.
-fn has_direction(protocol: u8, direction: u8) -> bool
-    ensures { λ r. ⌜ r ≡ hasDirection protocol direction ⌝ }
-{
-    if direction == 1 {
-        return !read::to_drive(protocol);
-    }
-    (direction == 2) & !read::from_drive(protocol)
-}
-
-// A length and a direction with data, and neither without.
-fn data_fit(order: Order) -> bool
-    ensures { λ r. ⌜ r ≡ dataFit order ⌝ }
-{
-    if read::with_data(order.protocol) {
-        return (order.length != 0) & has_direction(order.protocol, order.direction);
-    }
-    (order.length == 0) & (order.direction == 0)
-}
-
-// What has to hold of an order that is no reset.
-fn of_command(order: Order) -> bool
-    ensures { λ r. ⌜ r ≡ every (ofCommand order) ⌝ }
-{
-    (read::without_data(order.protocol) | read::with_data(order.protocol))
-        & (order.ck_cond < 2)
-        & (order.extend < 2)
-        & ((order.extend == 1) | without_upper(order))
-        & (fields::multiple_count(order.sectors_per_block) < 8)
-        & data_fit(order)
 }
 
 // What has to hold of a reset: it has nothing but its protocol and its quiet seconds.
@@ -66,13 +35,57 @@ fn of_reset(order: Order) -> bool
         & (order.direction == 0)
 }
 
-// Some command makes the order.
+// The protocol's data can go in this direction.
+fn has_direction(protocol: u8, direction: u8) -> bool
+    ensures { λ r. ⌜ r ≡ hasDirection protocol direction ⌝ }
+{
+    if direction == 1 {
+        return !read::to_drive(protocol);
+    }
+    (direction == 2) & !read::from_drive(protocol)
+}
+
+// The order is as its protocol has orders: with a length and a direction, with neither, or with nothing.
+fn protocol_fit(order: Order) -> bool
+    ensures { λ r. ⌜ r ≡ protocolFit order ⌝ }
+{
+    if read::with_data(order.protocol) {
+        return (order.length != 0) & has_direction(order.protocol, order.direction);
+    }
+    if read::without_data(order.protocol) {
+        return (order.length == 0) & (order.direction == 0);
+    }
+    if read::reset(order.protocol) {
+        return of_reset(order);
+    }
+    false
+}
+
+// Some command makes the order: the first test that fails answers. A reset is asked what a command is, too; one that has nothing else
+// passes that.
 pub fn buildable(order: Order) -> bool
     ensures { λ r. ⌜ r ≡ Buildable·buildable order ⌝ }
 {
-    let both = (order.auxiliary == 0) & (fields::off_line(order.quiet_seconds) < 4);
-    if read::reset(order.protocol) {
-        return both & of_reset(order);
+    if 4 <= fields::off_line(order.quiet_seconds) {
+        return false;
     }
-    both & of_command(order)
+    if 0 < order.auxiliary {
+        return false;
+    }
+    if 8 <= fields::multiple_count(order.sectors_per_block) {
+        return false;
+    }
+    if 2 <= order.ck_cond {
+        return false;
+    }
+    if 2 <= order.extend {
+        return false;
+    }
+    if !protocol_fit(order) {
+        return false;
+    }
+    if order.extend == 1 {
+        return true;
+    }
+    without_upper(order)
 }

@@ -1,14 +1,17 @@
 // Builder: the pass-through command that makes an order, or 23 where none does. The rules stand in specs/: Fields, Buildable and Builder.
 mod fields;
 mod fits;
+mod packed;
 
+use packed::Packed;
 use passthrough_order::Order;
 ghost use mathlib.Core.Path.{_≡_};
 ghost use mathlib.Core.Bool.{true};
 ghost use mathlib.Core.List.{_++_};
 ghost use lib.ListN.{replicate};
 ghost use Rattle.builder.specs.Buildable.{buildable};
-ghost use Rattle.builder.specs.Builder.{firstFlags, secondFlags, upper as Builder·upper, lower as Builder·lower, short as Builder·short, long as Builder·long, build as Builder·build};
+ghost use Rattle.builder.specs.Helpers.{bytesOf};
+ghost use Rattle.builder.specs.Builder.{firstFlags, secondFlags, upper as Builder·upper, lower as Builder·lower, short as Builder·short, long as Builder·long, built as Builder·built, build as Builder·build};
 
 // What comes back of an order: 0 and the command, whose first `size` bytes, 12 or 16, are to be sent, with zeros behind them; or 23, size
 // 0 and zeros.
@@ -54,53 +57,64 @@ fn second_flags(order: Order) -> u8
 }
 
 // The 12-byte form, and zeros behind it.
-fn short(order: Order) -> [u8; 16]
+fn short(order: Order) -> Packed
     requires { ⌜ buildable order ≡ true ⌝ }
-    ensures { λ r. ⌜ r ≡ Builder·short order ++ replicate 4 0 ⌝ }
+    ensures { λ r. ⌜ bytesOf r ≡ Builder·short order ++ replicate 4 0 ⌝ }
 {
-    [
-        0xA1,
-        first_flags(order),
-        second_flags(order),
-        lower(order.features),
-        lower(order.count),
-        lower(order.lba_low),
-        lower(order.lba_mid),
-        lower(order.lba_high),
-        order.device,
-        order.command,
-        0,
-        0,
-        0,
-        0,
-        0,
-        0,
-    ]
+    Packed {
+        first: packed::eight(
+            0xA1,
+            first_flags(order),
+            second_flags(order),
+            lower(order.features),
+            lower(order.count),
+            lower(order.lba_low),
+            lower(order.lba_mid),
+            lower(order.lba_high),
+        ),
+        second: packed::eight(order.device, order.command, 0, 0, 0, 0, 0, 0),
+    }
 }
 
 // The 16-byte form.
-fn long(order: Order) -> [u8; 16]
+fn long(order: Order) -> Packed
     requires { ⌜ buildable order ≡ true ⌝ }
-    ensures { λ r. ⌜ r ≡ Builder·long order ⌝ }
+    ensures { λ r. ⌜ bytesOf r ≡ Builder·long order ⌝ }
 {
-    [
-        0x85,
-        first_flags(order),
-        second_flags(order),
-        upper(order.features),
-        lower(order.features),
-        upper(order.count),
-        lower(order.count),
-        upper(order.lba_low),
-        lower(order.lba_low),
-        upper(order.lba_mid),
-        lower(order.lba_mid),
-        upper(order.lba_high),
-        lower(order.lba_high),
-        order.device,
-        order.command,
-        0,
-    ]
+    Packed {
+        first: packed::eight(
+            0x85,
+            first_flags(order),
+            second_flags(order),
+            upper(order.features),
+            lower(order.features),
+            upper(order.count),
+            lower(order.count),
+            upper(order.lba_low),
+        ),
+        second: packed::eight(
+            lower(order.lba_low),
+            upper(order.lba_mid),
+            lower(order.lba_mid),
+            upper(order.lba_high),
+            lower(order.lba_high),
+            order.device,
+            order.command,
+            0,
+        ),
+    }
+}
+
+// A command of this size.
+fn made(size: u8, packed: Packed) -> Built
+    ensures { λ r. ⌜ r ≡ Builder·built 0 size (bytesOf packed) ⌝ }
+{
+    let command = packed::bytes(packed);
+    Built {
+        number: 0,
+        size,
+        command,
+    }
 }
 
 // The command that makes an order.
@@ -115,17 +129,7 @@ pub fn build(order: Order) -> Built
         };
     }
     if order.extend == 0 {
-        let command = short(order);
-        return Built {
-            number: 0,
-            size: 12,
-            command,
-        };
+        return made(12, short(order));
     }
-    let command = long(order);
-    Built {
-        number: 0,
-        size: 16,
-        command,
-    }
+    made(16, long(order))
 }
