@@ -1,5 +1,2 @@
--- Laws of the builder; the last two are for its own functions.
-pub mod Laws
-pub mod Inverse
-mod InTurn
+-- For the builder's own functions.
 mod Bytes

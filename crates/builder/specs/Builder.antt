@@ -6,8 +6,8 @@ use lib.Dec.{eqb}
 use lib.ListN.{replicate}
 use Rattle.passthrough_order.specs.declared.Order.{Order}
 use Rattle.builder.specs.declared.Built.{Built}
-use Rattle.builder.specs.Fields.{offLineFor, multipleCountFor, tDirFor, lengthBits}
-use Rattle.builder.specs.Buildable.{buildable}
+use Rattle.buildable.specs.Fields.{offLineFor, multipleCountFor, tDirFor, lengthBits}
+use Rattle.buildable.specs.Buildable.{buildable}
 
 -- Byte 1: MULTIPLE_COUNT in bits 7:5, PROTOCOL in 4:1, EXTEND in bit 0.
 abbrev pub firstFlags : Order → ℕ

@@ -1,15 +1,14 @@
-// Builder: the pass-through command that makes an order, or 23 where none does. The rules stand in specs/: Fields, Buildable and Builder.
-mod fields;
-mod fits;
+// Builder: the pass-through command that makes an order, or 23 where none does. The rule stands in specs/Builder.
 mod packed;
 
+use buildable::fields;
 use packed::Packed;
 use passthrough_order::Order;
 ghost use mathlib.Core.Path.{_≡_};
 ghost use mathlib.Core.Bool.{true};
 ghost use mathlib.Core.List.{_++_};
 ghost use lib.ListN.{replicate};
-ghost use Rattle.builder.specs.Buildable.{buildable};
+ghost use Rattle.buildable.specs.Buildable.{buildable};
 ghost use Rattle.builder.specs.Helpers.{bytesOf};
 ghost use Rattle.builder.specs.Builder.{firstFlags, secondFlags, upper as Builder·upper, lower as Builder·lower, short as Builder·short, long as Builder·long, built as Builder·built, build as Builder·build};
 
@@ -121,7 +120,7 @@ fn made(size: u8, packed: Packed) -> Built
 pub fn build(order: Order) -> Built
     ensures { λ r. ⌜ r ≡ Builder·build order ⌝ }
 {
-    if !fits::buildable(order) {
+    if !buildable::buildable(order) {
         return Built {
             number: 23,
             size: 0,

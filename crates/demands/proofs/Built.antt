@@ -17,12 +17,12 @@ use Rattle.passthrough_fields.specs.Length.{lengthOf}
 use Rattle.passthrough_order.specs.declared.Order.{Order}
 use Rattle.passthrough_order.specs.Order.{withoutData, fromDrive, toDrive, withData, reset, quietSeconds, resetOrder, commandOrder, orderOf}
 use Rattle.passthrough_checks.specs.Checks.{wrongSize, wrongAction, wrongProtocol, waits, wrongLength, wrongDirection, noLength, tooLong, checksOf, refusalOf}
-use Rattle.builder.specs.Fields.{offLineFor, multipleCountFor, lengthBits}
-use Rattle.builder.specs.Buildable.{every, withoutUpper, hasDirection, dataFit, ofCommand, ofReset, tests, buildable}
+use Rattle.buildable.specs.Fields.{offLineFor, multipleCountFor, lengthBits}
+use Rattle.buildable.specs.Buildable.{every, withoutUpper, hasDirection, dataFit, ofCommand, ofReset, tests, buildable}
 use Rattle.builder.specs.Builder.{short, long, built, build}
-use Rattle.builder.proofs.Laws.{Each, each, every-of, one-of, small}
+use Rattle.buildable.proofs.Laws.{Each, each, every-of, one-of, small}
 use Rattle.rules.proofs.Below.{all-below, at}
-use Rattle.builder.proofs.Inverse.{off-line-back, multiple-count-back}
+use Rattle.buildable.proofs.Inverse.{off-line-back, multiple-count-back}
 use Rattle.passthrough.specs.Record.{nothingPending, resetPending}
 use Rattle.passthrough.specs.Submit as Submit
 use Rattle.passthrough.specs.Submit.{submit}

@@ -12,9 +12,9 @@ use Rattle.passthrough_fields.specs.Fields as Fields
 use Rattle.passthrough_fields.specs.Length.{lengthOf}
 use Rattle.passthrough_order.specs.declared.Order.{Order}
 use Rattle.passthrough_order.specs.Order.{withData, reset, directionOf, quietSeconds, resetOrder, commandOrder, orderOf}
-use Rattle.builder.specs.Fields.{offLineFor, multipleCountFor}
-use Rattle.builder.proofs.Laws.{one-of}
-use Rattle.builder.proofs.Inverse.{off-line-back, multiple-count-back, flag-back}
+use Rattle.buildable.specs.Fields.{offLineFor, multipleCountFor}
+use Rattle.buildable.proofs.Laws.{one-of}
+use Rattle.buildable.proofs.Inverse.{off-line-back, multiple-count-back, flag-back}
 use Rattle.demands.specs.Counts.{Counts, ofReset, ofCommand, countsOf, pointsAt}
 
 -- The order that what counts of a command comes to, with its length.

@@ -13,12 +13,12 @@ use Rattle.passthrough_fields.specs.Length.{lengthOf}
 use Rattle.passthrough_order.specs.declared.Order.{Order}
 use Rattle.passthrough_order.specs.Order.{fromDrive, toDrive, withData, reset, directionOf, quietSeconds, orderOf}
 use Rattle.passthrough_checks.specs.Checks.{wrongOpcode}
-use Rattle.builder.specs.Fields.{offLineFor, multipleCountFor, lengthBits}
-use Rattle.builder.specs.Buildable.{every, withoutUpper, hasDirection, ofCommand, ofReset, tests, buildable}
+use Rattle.buildable.specs.Fields.{offLineFor, multipleCountFor, lengthBits}
+use Rattle.buildable.specs.Buildable.{every, withoutUpper, hasDirection, ofCommand, ofReset, tests, buildable}
 use Rattle.builder.specs.Builder.{firstFlags, secondFlags, short, long}
-use Rattle.builder.proofs.Laws.{Each, each, Small, small, flag-low, length-bits-low}
+use Rattle.buildable.proofs.Laws.{Each, each, Small, small, flag-low, length-bits-low}
 use Rattle.demands.proofs.Counts.{no-auxiliary}
-use Rattle.builder.proofs.Inverse.{quiet-back, sectors-back, yes-back, flag-back, length-back}
+use Rattle.buildable.proofs.Inverse.{quiet-back, sectors-back, yes-back, flag-back, length-back}
 
 -- A command reads as an order: every field of it says what the order says.
 pub record ReadsAs (c : List ℕ) (o : Order) : Type 0 where

@@ -42,7 +42,7 @@ use Rattle.tally.specs.declared.Fed.{Fed}
 use Rattle.tally.specs.Census as Census
 use Rattle.tally.specs.Census.{feed}
 use Rattle.passthrough_order.specs.declared.Order.{Order}
-use Rattle.builder.specs.Buildable.{buildable}
+use Rattle.buildable.specs.Buildable.{buildable}
 use Rattle.builder.specs.Builder.{short, long, built, build}
 use Rattle.demands.specs.Promises.{Refused, RefusalsChangeNothing}
 

@@ -1,5 +1,5 @@
 -- `first_flags`: every field within its bits.
-use Rattle.builder.proofs.Laws.{small}
+use Rattle.buildable.proofs.Laws.{small}
 use borrow.Author.Needs.{needs}
 use Rattle.builder.proofs.first_flags.Statement.{statement}
 use Rattle.builder.proofs.first_flags.Tie as tie

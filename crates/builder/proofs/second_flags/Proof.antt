@@ -1,6 +1,6 @@
 -- `second_flags`: every field within its bits.
 use lib.Dec.{eqb}
-use Rattle.builder.proofs.Laws.{small, flag-low, length-bits-low}
+use Rattle.buildable.proofs.Laws.{small, flag-low, length-bits-low}
 use borrow.Author.Needs.{needs}
 use Rattle.builder.proofs.second_flags.Statement.{statement}
 use Rattle.builder.proofs.second_flags.Tie as tie

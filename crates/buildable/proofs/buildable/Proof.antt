@@ -5,10 +5,10 @@ use Prim.Native.Nat.{ℕ, _≤_, _<_}
 use native.Mathlib.Omega.{arith}
 use lib.Dec.{eqb}
 use borrow.Author.Tests.{lt-ltb, le-ltb, eq-eqb, ne-eqb, not-true, not-false}
-use Rattle.builder.proofs.InTurn.{refused-by, decided}
+use Rattle.buildable.proofs.InTurn.{refused-by, decided}
 use borrow.Author.Needs.{needs}
-use Rattle.builder.proofs.fits.buildable.Statement.{statement}
-use Rattle.builder.proofs.fits.buildable.Tie as tie
+use Rattle.buildable.proofs.buildable.Statement.{statement}
+use Rattle.buildable.proofs.buildable.Tie as tie
 
 -- Whether a number is zero.
 none : (n : ℕ) → n ≤ 0 → eqb n 0 ≡ true

@@ -1,7 +1,7 @@
 -- `multiple_count`: each arm by its number, and the last by none of them.
 use borrow.Author.Tests.{ne-eqb}
-use Rattle.builder.proofs.fields.multiple_count.Statement.{statement}
-use Rattle.builder.proofs.fields.multiple_count.Tie as tie
+use Rattle.buildable.proofs.fields.multiple_count.Statement.{statement}
+use Rattle.buildable.proofs.fields.multiple_count.Tie as tie
 
 returns : tie.Need-returns
 returns c = rw (c .match .keys1)

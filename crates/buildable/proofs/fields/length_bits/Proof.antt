@@ -1,8 +1,8 @@
 -- `length_bits`: the first that has the length.
 use borrow.Author.Tests.{eq-eqb, ne-eqb}
 use borrow.Author.Needs.{needs}
-use Rattle.builder.proofs.fields.length_bits.Statement.{statement}
-use Rattle.builder.proofs.fields.length_bits.Tie as tie
+use Rattle.buildable.proofs.fields.length_bits.Statement.{statement}
+use Rattle.buildable.proofs.fields.length_bits.Tie as tie
 
 wide-requires : tie.Need-wide-requires
 wide-requires c κs = search needs

@@ -5,7 +5,7 @@ use Prim.Native.Nat.{ℕ}
 use lib.Dec.{eqb, ltb}
 use Rattle.passthrough_order.specs.declared.Order.{Order}
 use Rattle.passthrough_order.specs.Order.{withoutData, fromDrive, toDrive, withData, reset}
-use Rattle.builder.specs.Fields.{offLineFor, multipleCountFor}
+use Rattle.buildable.specs.Fields.{offLineFor, multipleCountFor}
 
 -- Every test of a list holds.
 abbrev pub every : List Bool → Bool

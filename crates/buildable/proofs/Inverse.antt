@@ -11,7 +11,7 @@ use Rattle.rules.specs.Bits.{bit, flag}
 use Rattle.rules.proofs.Below.{all-below, at}
 use Rattle.passthrough_fields.specs.Length.{bytesIn}
 use Rattle.passthrough_order.specs.Order.{quietSeconds}
-use Rattle.builder.specs.Fields.{place, quietTimes, offLineFor, sectorCounts, multipleCountFor, lengthBits}
+use Rattle.buildable.specs.Fields.{place, quietTimes, offLineFor, sectorCounts, multipleCountFor, lengthBits}
 
 -- What stands at the place of a number is the number, where it has one.
 step : (m n k : ℕ) (ms : List ℕ) (b : Bool) → eqb n m ≡ b → (k < length ms → getD ms k 0 ≡ n) → cond b 0 (suc k) < suc (length ms) → getD (m ∷ ms) (cond b 0 (suc k)) 0 ≡ n

@@ -1,8 +1,8 @@
 -- `protocol_fit`: by the protocol's kind.
 use mathlib.Core.Path.{sym, _∙_}
 use borrow.Author.Needs.{needs}
-use Rattle.builder.proofs.fits.protocol_fit.Statement.{statement}
-use Rattle.builder.proofs.fits.protocol_fit.Tie as tie
+use Rattle.buildable.proofs.protocol_fit.Statement.{statement}
+use Rattle.buildable.proofs.protocol_fit.Tie as tie
 
 with-data-requires : tie.Need-with-data-requires
 with-data-requires c κs = search needs

@@ -1,7 +1,7 @@
 -- `off_line`: each arm by its number, and the last by none of them.
 use borrow.Author.Tests.{ne-eqb}
-use Rattle.builder.proofs.fields.off_line.Statement.{statement}
-use Rattle.builder.proofs.fields.off_line.Tie as tie
+use Rattle.buildable.proofs.fields.off_line.Statement.{statement}
+use Rattle.buildable.proofs.fields.off_line.Tie as tie
 
 returns : tie.Need-returns
 returns c = rw (c .match .keys1)

@@ -1,8 +1,8 @@
 -- `has_direction`: from the drive, or to it.
 use borrow.Author.Tests.{eq-eqb, ne-eqb}
 use borrow.Author.Needs.{needs}
-use Rattle.builder.proofs.fits.has_direction.Statement.{statement}
-use Rattle.builder.proofs.fits.has_direction.Tie as tie
+use Rattle.buildable.proofs.has_direction.Statement.{statement}
+use Rattle.buildable.proofs.has_direction.Tie as tie
 
 to-drive-requires : tie.Need-to-drive-requires
 to-drive-requires c κs = search needs

@@ -1,10 +1,11 @@
-// Whether a command makes an order.
-use crate::fields;
+// Buildable: whether a command makes an order, and the fields of the one that does. The rules stand in specs/: Fields and Buildable.
+pub mod fields;
+
 use passthrough_order::Order;
 use passthrough_order::read;
 ghost use mathlib.Core.Path.{_≡_};
-ghost use Rattle.builder.specs.Buildable.{every, withoutUpper, hasDirection, ofReset, buildable as Buildable·buildable};
-ghost use Rattle.builder.specs.Helpers.{protocolFit};
+ghost use Rattle.buildable.specs.Buildable.{every, withoutUpper, hasDirection, ofReset, buildable as Buildable·buildable};
+ghost use Rattle.buildable.specs.Helpers.{protocolFit};
 
 // No register has an upper byte.
 fn without_upper(order: Order) -> bool

@@ -1,4 +1,4 @@
--- `fits::buildable` asks the tests in an order of its own, and the same of a reset as of any other order: no order fares otherwise.
+-- `buildable` asks the tests in an order of its own, and the same of a reset as of any other order: no order fares otherwise.
 use mathlib.Core.Path.{_≡_, refl, sym, _∙_}
 use mathlib.Core.Bool.{Bool, true, false, cond, _&&_, _||_, and-true, and-false, and-comm, true≢false}
 use mathlib.Core.Logic.{⊎-elim}
@@ -9,10 +9,10 @@ use lib.ListN.{getD}
 use borrow.Author.Tests.{eqb-true}
 use Rattle.passthrough_order.specs.declared.Order.{Order}
 use Rattle.passthrough_order.specs.Order.{withoutData, withData, reset}
-use Rattle.builder.specs.Fields.{offLineFor, multipleCountFor}
-use Rattle.builder.specs.Buildable.{every, withoutUpper, dataFit, ofReset, buildable}
-use Rattle.builder.specs.Helpers.{protocolFit}
-use Rattle.builder.proofs.Laws.{Each, each, one-of}
+use Rattle.buildable.specs.Fields.{offLineFor, multipleCountFor}
+use Rattle.buildable.specs.Buildable.{every, withoutUpper, dataFit, ofReset, buildable}
+use Rattle.buildable.specs.Helpers.{protocolFit}
+use Rattle.buildable.proofs.Laws.{Each, each, one-of}
 
 -- Each test.
 module _ (o : Order) where

@@ -1,6 +1,6 @@
 // Fields of a command, from what they say in an order.
 ghost use mathlib.Core.Path.{_≡_};
-ghost use Rattle.builder.specs.Fields.{offLineFor, multipleCountFor, tDirFor, lengthBits};
+ghost use Rattle.buildable.specs.Fields.{offLineFor, multipleCountFor, tDirFor, lengthBits};
 
 // OFF_LINE for quiet seconds; 4 where none gives them.
 pub fn off_line(quiet_seconds: u16) -> u8

@@ -10,8 +10,8 @@ use borrow.Author.Tests.{eqb-true, ltb-true, ltb-false, ne-eqb}
 use Rattle.rules.specs.Bits.{flag}
 use Rattle.passthrough_order.specs.declared.Order.{Order}
 use Rattle.passthrough_order.specs.Order.{withoutData, withData, reset}
-use Rattle.builder.specs.Fields.{offLineFor, multipleCountFor, lengthBits}
-use Rattle.builder.specs.Buildable.{every, ofCommand, ofReset, tests, buildable}
+use Rattle.buildable.specs.Fields.{offLineFor, multipleCountFor, lengthBits}
+use Rattle.buildable.specs.Buildable.{every, ofCommand, ofReset, tests, buildable}
 
 -- Each test of a list holds.
 abbrev pub Each : List Bool → Type 0

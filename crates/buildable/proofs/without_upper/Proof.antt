@@ -1,7 +1,7 @@
 -- `without_upper`: the five tests, one after the other.
 use mathlib.Core.Bool.{and-true, and-assoc}
-use Rattle.builder.proofs.fits.without_upper.Statement.{statement}
-use Rattle.builder.proofs.fits.without_upper.Tie as tie
+use Rattle.buildable.proofs.without_upper.Statement.{statement}
+use Rattle.buildable.proofs.without_upper.Tie as tie
 
 returns : tie.Need-returns
 returns c = simp (and-assoc, and-true)

@@ -1,0 +1,4 @@
+-- Which orders a command makes, and its fields.
+pub mod Fields
+pub mod Buildable
+pub mod Helpers
