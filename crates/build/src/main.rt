@@ -1,13 +1,11 @@
 // Build: the host tool. Each line of the input names an order, as words `field=value`; for each it prints the bytes of the command that
 // makes the order, as `sg_raw` takes them, or `refused 23` where none does. A line that is no order is told on standard error, with its
-// number. What a line comes to is proved in `order_lines`; reading the lines, and writing what they come to, no contract can say.
+// number. What a line comes to is proved in `order_shown`; reading the lines, and writing what they come to, no contract can say.
 use input::Wanted;
 use input::parts::Source;
 use libc::STDERR_FILENO;
 use libc::STDOUT_FILENO;
-use order_lines::line;
-use order_lines::shown;
-use order_lines::words;
+use order_words::words;
 ghost use mathlib.Core.Path.{_≡_};
 ghost use Prim.Native.Nat.{_≤_};
 ghost use lib.ListN.{length};
@@ -49,19 +47,19 @@ fn complain_word(word: &[u8]) {
 
 // What is wrong with a word.
 fn complain_why(fault: u8) {
-    if fault == line::NO_EQUALS {
+    if fault == order_lines::NO_EQUALS {
         io::write_all(STDERR_FILENO, b" has no =\n");
         return;
     }
-    if fault == line::NO_FIELD {
+    if fault == order_lines::NO_FIELD {
         io::write_all(STDERR_FILENO, b" names no field of an order\n");
         return;
     }
-    if fault == line::NO_NUMBER {
+    if fault == order_lines::NO_NUMBER {
         io::write_all(STDERR_FILENO, b" has no number\n");
         return;
     }
-    if fault == line::LARGE {
+    if fault == order_lines::LARGE {
         io::write_all(STDERR_FILENO, b" has a number too large for its field\n");
         return;
     }
@@ -72,7 +70,7 @@ fn complain_why(fault: u8) {
 fn say_line(number: u64, line: &[u8]) -> bool
     requires { ⌜ length (now line) ≤ 4096 ⌝ }
 {
-    let answer = shown::answer_to(line);
+    let answer = order_shown::answer_to(line);
     if answer.fault != 0 {
         complain_of(number);
         complain_word(rules::part(line, answer.start, answer.end));

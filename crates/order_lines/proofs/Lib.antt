@@ -1,5 +1,2 @@
--- Laws of words, numbers, lines and of what is shown.
-pub mod Marks
-pub mod Numbers
+-- The laws of reading a line, for the crates above.
 pub mod Readings
-pub mod Shows

@@ -8,12 +8,12 @@ use lib.Dec.{eqb, ltb}
 use borrow.Author.Tests.{lt-ltb, le-ltb}
 use lib.ListN.{length, getD, take, drop, length-take, length-drop}
 use lib.Seq.{drop-drop, take-all, length-take-le}
-use Rattle.order_lines.specs.declared.line.Word.{Word}
-use Rattle.order_lines.specs.declared.line.Read.{Read}
-use Rattle.order_lines.specs.declared.number.Number.{Number}
-use Rattle.order_lines.specs.Words.{space, equals, upTo, parts}
+use Rattle.order_words.specs.declared.number.Number.{Number}
+use Rattle.order_words.specs.Words.{space, equals, upTo, parts}
+use Rattle.order_words.proofs.Marks.{cut, last}
+use Rattle.order_lines.specs.declared.Word.{Word}
+use Rattle.order_lines.specs.declared.Read.{Read}
 use Rattle.order_lines.specs.Line.{limit, valueOf, wrong, noEquals, noField, noNumber, large, fieldOf, valued, wordOf, unread, faulty, giving, added, withPart, withParts, readLine, withoutReturn}
-use Rattle.order_lines.proofs.Marks.{cut, last}
 
 -- No field holds a number of more than 32 bits.
 pub limit-low : (field : ℕ) → limit field ≤ 0x100000000

@@ -1,5 +1,2 @@
--- What the program reads in a line, and what it shows of what is built.
-pub mod Words
-pub mod Number
+-- The order that a line names.
 pub mod Line
-pub mod Shown

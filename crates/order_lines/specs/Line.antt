@@ -5,11 +5,11 @@ use Prim.Native.Nat.{ℕ, suc, _+_, _-_, _%_}
 use lib.Dec.{eqb, ltb}
 use lib.ListN.{length, getD, set, take, drop, replicate}
 use Rattle.passthrough_order.specs.declared.Order.{Order}
-use Rattle.order_lines.specs.declared.number.Number.{Number}
-use Rattle.order_lines.specs.declared.line.Word.{Word}
-use Rattle.order_lines.specs.declared.line.Read.{Read}
-use Rattle.order_lines.specs.Words.{bytes, equals, upTo, parts, placeOf}
-use Rattle.order_lines.specs.Number.{numberOf}
+use Rattle.order_words.specs.declared.number.Number.{Number}
+use Rattle.order_words.specs.Words.{bytes, equals, upTo, parts, placeOf}
+use Rattle.order_words.specs.Number.{numberOf}
+use Rattle.order_lines.specs.declared.Word.{Word}
+use Rattle.order_lines.specs.declared.Read.{Read}
 
 -- The fields of an order, as C calls them.
 abbrev pub fieldNames : List (List ℕ)

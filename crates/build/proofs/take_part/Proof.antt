@@ -4,7 +4,7 @@ use Prim.Native.Nat.{_+_, _-_, _≤_}
 use native.Mathlib.Omega.{arith}
 use lib.ListN.{length}
 use lib.Seq.{length-take-le}
-use Rattle.order_lines.proofs.Marks.{inside}
+use Rattle.order_words.proofs.Marks.{inside}
 use borrow.Author.Needs.{needs}
 use Rattle.build.proofs.take_part.Statement.{statement}
 use Rattle.build.proofs.take_part.Tie as tie

@@ -1,0 +1,2 @@
+-- What is shown of a line.
+pub mod Shown
