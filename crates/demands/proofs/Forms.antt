@@ -29,7 +29,8 @@ use Rattle.passthrough.specs.Record.{empty, nothingPending, resetPending}
 use Rattle.passthrough.specs.Submit as Submit
 use Rattle.passthrough.specs.Submit.{submit}
 use Rattle.passthrough.specs.Complete as Complete
-use Rattle.passthrough.specs.Complete.{complete, failed, isSet, lost, lostProtocol}
+use Rattle.passthrough_end.specs.End.{failed, isSet}
+use Rattle.passthrough.specs.Complete.{complete, lost, lostProtocol}
 use Rattle.intake.specs.Intake.{wrongIntake, blockOf}
 use Rattle.received.specs.Received.{inquiryOf}
 use Rattle.demands.specs.Promises.{ToldAlike, FormsAgree, FormChangesOnlySense, UsualForm}

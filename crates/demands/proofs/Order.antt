@@ -21,7 +21,8 @@ use Rattle.passthrough.specs.Record.{nothingPending, resetPending}
 use Rattle.passthrough.specs.Submit as Submit
 use Rattle.passthrough.specs.Submit.{made, submit}
 use Rattle.passthrough.specs.Complete as Complete
-use Rattle.passthrough.specs.Complete.{complete, isSet}
+use Rattle.passthrough_end.specs.End.{isSet}
+use Rattle.passthrough.specs.Complete.{complete}
 use Rattle.passthrough.proofs.Over.{taken-over}
 use Rattle.demands.specs.Promises.{Submission, outcomeOf, numberOf, orderFrom, DirectionFromTheFields, ataCommandAt, withCommand, OnlyTheCommandDiffers, OwnFlags, EndsBy, CompletedWithItsOwnFields, withNothingPending, TakenWhilePending, Protocol15KeepsTheRecord}
 use Rattle.demands.proofs.Refusals.{not-refused}

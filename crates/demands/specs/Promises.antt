@@ -41,7 +41,8 @@ use Rattle.passthrough.specs.Record.{empty, nothingPending, resetPending}
 use Rattle.passthrough.specs.Submit as Submit
 use Rattle.passthrough.specs.Submit.{isLater, made, submit}
 use Rattle.passthrough.specs.Complete as Complete
-use Rattle.passthrough.specs.Complete.{complete, endStatus, endSense, isSet}
+use Rattle.passthrough_end.specs.End.{endStatus, endSense, isSet}
+use Rattle.passthrough.specs.Complete.{complete}
 use Rattle.passthrough.specs.History as History
 use Rattle.passthrough.specs.History.{Step, Stacked, completionOf}
 use Rattle.builder.specs.Builder.{built, build}

@@ -16,7 +16,8 @@ use Rattle.passthrough.specs.declared.Pending.{Pending}
 use Rattle.passthrough.specs.Submit as Submit
 use Rattle.passthrough.specs.Submit.{submit}
 use Rattle.passthrough.specs.Complete as Complete
-use Rattle.passthrough.specs.Complete.{failed, complete}
+use Rattle.passthrough_end.specs.End.{failed}
+use Rattle.passthrough.specs.Complete.{complete}
 use Rattle.passthrough.specs.Record.{empty, holding}
 use Rattle.health.specs.declared.Asked.{Asked}
 use Rattle.health.specs.declared.Said.the-variants.{Healthy, Failing, Unknown, Error, Refused}

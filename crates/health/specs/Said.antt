@@ -5,7 +5,7 @@ use Prim.Native.Nat.{ℕ}
 use lib.Dec.{eqb}
 use lib.ListN.{getD}
 use Rattle.refusals.specs.Refusal.{rowOf, checkCondition}
-use Rattle.passthrough.specs.Complete.{failed}
+use Rattle.passthrough_end.specs.End.{failed}
 use Rattle.health.specs.declared.Said.{Said}
 use Rattle.health.specs.declared.Said.the-variants.{Healthy, Failing, Unknown, Error, Refused}
 

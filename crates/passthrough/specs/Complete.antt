@@ -1,23 +1,17 @@
 -- Completing what is pending (RULES 9).
-use mathlib.Core.Bool.{Bool, cond, _||_, not}
+use mathlib.Core.Bool.{cond}
 use mathlib.Core.List.{List, [], _∷_}
 use Prim.Native.Nat.{ℕ}
 use lib.Dec.{eqb}
-use lib.ListN.{length, getD}
-use Rattle.rules.specs.Bits.{bit, flag}
+use lib.ListN.{length}
+use Rattle.rules.specs.Bits.{flag}
 use Rattle.rules.specs.First.{Check, _when_, first}
-use Rattle.room.specs.Room.{written}
-use Rattle.refusals.specs.Refusal.{rowOf, refusedSense, good, checkCondition}
-use Rattle.sense.specs.Sense.{senseData, registers as told}
-use Rattle.passthrough_order.specs.declared.Order.{Order}
+use Rattle.refusals.specs.Refusal.{rowOf, refusedSense}
 use Rattle.passthrough_checks.specs.Checks.{wrongSize}
+use Rattle.passthrough_end.specs.End.{endStatus, endSense}
 use Rattle.passthrough.specs.declared.Pending.{Pending}
 use Rattle.passthrough.specs.declared.Completed.{Completed}
 use Rattle.passthrough.specs.Record.{empty, nothingPending, resetOver}
-
--- A flag of an order is set where it is not zero: an order that the board made has 0 or 1.
-abbrev pub isSet : ℕ → Bool
-isSet flag = not (eqb flag 0)
 
 abbrev pub checksOf : Pending → List ℕ → ℕ → List Check
 checksOf pending registers sense =
@@ -27,10 +21,6 @@ checksOf pending registers sense =
 
 unfoldable pub refusalOf : Pending → List ℕ → ℕ → ℕ
 refusalOf pending registers sense = first (checksOf pending registers sense)
-
--- The drive reports an error: status bit 0 or 5.
-abbrev pub failed : List ℕ → Bool
-failed registers = bit 0 (getD registers 10 0) || bit 5 (getD registers 10 0)
 
 -- Everything that comes back, and every lent byte that can change.
 pub record Outcome : Type 0 where
@@ -43,17 +33,6 @@ outcome completed sense = record { completed = completed; sense = sense }
 abbrev pub answer : Pending → ℕ → ℕ → ℕ → ℕ → Completed
 answer next number status lost lostProtocol =
     record { next = next; ended = record { number = number; status = status; lost = lost; «lost_protocol» = lostProtocol } }
-
--- An error is CHECK CONDITION with key 0Bh; without one, CK_COND makes it CHECK CONDITION with key 01h, 00h/1Dh; else it is GOOD
--- and writes no sense data. The registers are told with the order's own EXTEND.
-abbrev pub endStatus : Order → List ℕ → ℕ
-endStatus order registers = cond (failed registers) checkCondition (cond (isSet (order .«ck_cond»)) checkCondition good)
-
-abbrev pub endSense : Order → List ℕ → ℕ → List ℕ → List ℕ
-endSense order registers form sense =
-    cond (failed registers) (written sense 0 (senseData form 0x0B 0x00 0x00 (told (isSet (order .extend)) registers)))
-    (cond (isSet (order .«ck_cond»)) (written sense 0 (senseData form 0x01 0x00 0x1D (told (isSet (order .extend)) registers)))
-    sense)
 
 -- An order that a reset is over is lost: 1 says so, and its protocol is told; it has no status. Where none is lost both are 0.
 abbrev pub lost : Pending → ℕ

@@ -13,7 +13,8 @@ use Rattle.passthrough.specs.declared.Ended.{Ended}
 use Rattle.passthrough.specs.Record.{empty, nothingPending, resetOver}
 use Rattle.passthrough.specs.Submit.{submit}
 use Rattle.passthrough.specs.Complete as Complete
-use Rattle.passthrough.specs.Complete.{complete, endStatus, endSense}
+use Rattle.passthrough_end.specs.End.{endStatus, endSense}
+use Rattle.passthrough.specs.Complete.{complete}
 
 -- The orders that wait in a record, the oldest first.
 abbrev pub waiting : Pending → List Order

@@ -1,6 +1,5 @@
 // Pass-through: the record that holds what is pending, an order or an order with a reset over it, a command submitted to it, and the
 // completion. The rules stand in specs/: Record, Submit and Complete.
-mod finish;
 mod held;
 
 use passthrough_fields::length;
@@ -180,9 +179,9 @@ impl Pending {
         if self.state == 0 {
             return end(self, 15, refusals::refuse(sense, form, 15), 0, 0);
         }
-        let lost = finish::lost(self);
-        let lost_protocol = finish::lost_protocol(self);
-        let status = finish::tell(self.order, registers, form, sense);
+        let lost = held::lost(self);
+        let lost_protocol = held::lost_protocol(self);
+        let status = passthrough_end::tell(self.order, registers, form, sense);
         end(empty, 0, status, lost, lost_protocol)
     }
 }

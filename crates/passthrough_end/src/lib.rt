@@ -1,34 +1,15 @@
-// The end of an order: its status and what its sense data tell; and the order that is lost with it.
-use crate::Pending;
-use crate::held;
+// Pass-through end: how an order ends, by what the drive reports and the order's own flags: its status, and what its sense data tell. The
+// rule stands in specs/End.
 use passthrough_order::Order;
 ghost use mathlib.Core.Path.{_≡_};
 ghost use Prim.Native.Nat.{_≤_};
 ghost use lib.ListN.{length};
-ghost use Rattle.passthrough.specs.Complete.{failed as Complete·failed, endStatus, endSense, lost as Complete·lost, lostProtocol};
-
-// 1 where an order is lost, since a reset is over it, and else 0.
-pub fn lost(pending: Pending) -> u8
-    ensures { λ r. ⌜ r ≡ Complete·lost pending ⌝ }
-{
-    rules::flag(held::reset_over(pending))
-}
-
-// The protocol of the order that is lost, and 0 where none is.
-pub fn lost_protocol(pending: Pending) -> u8
-    ensures { λ r. ⌜ r ≡ lostProtocol pending ⌝ }
-{
-    let older = pending.older;
-    if held::reset_over(pending) {
-        return older.protocol;
-    }
-    0
-}
+ghost use Rattle.passthrough_end.specs.End.{failed as End·failed, endStatus, endSense};
 
 // Whether the drive reports an error: ERR or DF in its status.
 fn failed(registers: &[u8]) -> bool
     requires { ⌜ length (now registers) ≡ 11 ⌝ }
-    ensures { λ r. ⌜ r ≡ Complete·failed (now (registers .entry)) ⌝ }
+    ensures { λ r. ⌜ r ≡ End·failed (now (registers .entry)) ⌝ }
 {
     rules::bit(registers[10], 0) | rules::bit(registers[10], 5)
 }

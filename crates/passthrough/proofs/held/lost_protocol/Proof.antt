@@ -1,8 +1,8 @@
 -- `lost_protocol`: by whether a reset is over an order.
 use Rattle.passthrough_checks.proofs.Laws.{found}
 use borrow.Author.Needs.{needs}
-use Rattle.passthrough.proofs.finish.lost_protocol.Statement.{statement}
-use Rattle.passthrough.proofs.finish.lost_protocol.Tie as tie
+use Rattle.passthrough.proofs.held.lost_protocol.Statement.{statement}
+use Rattle.passthrough.proofs.held.lost_protocol.Tie as tie
 
 reset-over-requires : tie.Need-reset-over-requires
 reset-over-requires c κs = search needs

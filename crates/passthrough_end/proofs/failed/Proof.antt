@@ -1,7 +1,7 @@
 -- `failed`: the two bits.
 use borrow.Author.Needs.{needs}
-use Rattle.passthrough.proofs.finish.failed.Statement.{statement}
-use Rattle.passthrough.proofs.finish.failed.Tie as tie
+use Rattle.passthrough_end.proofs.failed.Statement.{statement}
+use Rattle.passthrough_end.proofs.failed.Tie as tie
 
 shared-slice-read-bit : tie.Need-shared-slice-read-bit
 shared-slice-read-bit c = search needs

@@ -1,7 +1,7 @@
 -- `lost`: the test as a number.
 use borrow.Author.Needs.{needs}
-use Rattle.passthrough.proofs.finish.lost.Statement.{statement}
-use Rattle.passthrough.proofs.finish.lost.Tie as tie
+use Rattle.passthrough.proofs.held.lost.Statement.{statement}
+use Rattle.passthrough.proofs.held.lost.Tie as tie
 
 reset-over-requires : tie.Need-reset-over-requires
 reset-over-requires c κs = search needs

@@ -1,8 +1,8 @@
 -- `tell`: the error bits first, then CK_COND.
 use mathlib.Core.Path.{refl}
 use borrow.Author.Needs.{needs}
-use Rattle.passthrough.proofs.finish.tell.Statement.{statement}
-use Rattle.passthrough.proofs.finish.tell.Tie as tie
+use Rattle.passthrough_end.proofs.tell.Statement.{statement}
+use Rattle.passthrough_end.proofs.tell.Tie as tie
 
 failed-requires : tie.Need-failed-requires
 failed-requires c κs = search needs

@@ -1,0 +1,2 @@
+-- How an order ends.
+pub mod End
