@@ -9,7 +9,7 @@ use lib.ListN.{length, getD}
 use borrow.Author.Tests.{eqb-true}
 use Rattle.rules.specs.Bits.{bit, flag}
 use Rattle.rules.proofs.Below.{all-below, at}
-use Rattle.passthrough_fields.specs.Length.{bytesIn}
+use Rattle.passthrough_length.specs.Length.{bytesIn}
 use Rattle.passthrough_order.specs.Order.{quietSeconds}
 use Rattle.buildable.specs.Fields.{place, quietTimes, offLineFor, sectorCounts, multipleCountFor, lengthBits}
 

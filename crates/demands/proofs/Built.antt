@@ -13,7 +13,7 @@ use Rattle.rules.specs.Bits.{flag}
 use Rattle.rules.specs.First.{Check, first}
 use Rattle.rules.proofs.First.{Silent, silent, neither}
 use Rattle.passthrough_fields.specs.Fields as Fields
-use Rattle.passthrough_fields.specs.Length.{lengthOf}
+use Rattle.passthrough_length.specs.Length.{lengthOf}
 use Rattle.passthrough_order.specs.declared.Order.{Order}
 use Rattle.passthrough_order.specs.Order.{withoutData, fromDrive, toDrive, withData, reset, quietSeconds, resetOrder, commandOrder, orderOf}
 use Rattle.passthrough_checks.specs.Checks.{wrongSize, wrongAction, wrongProtocol, waits, wrongLength, wrongDirection, noLength, tooLong, checksOf, refusalOf}

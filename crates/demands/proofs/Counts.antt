@@ -9,7 +9,7 @@ use lib.Dec.{eqb}
 use borrow.Author.Tests.{eqb-true}
 use Rattle.rules.specs.Bits.{flag}
 use Rattle.passthrough_fields.specs.Fields as Fields
-use Rattle.passthrough_fields.specs.Length.{lengthOf}
+use Rattle.passthrough_length.specs.Length.{lengthOf}
 use Rattle.passthrough_order.specs.declared.Order.{Order}
 use Rattle.passthrough_order.specs.Order.{withData, reset, directionOf, quietSeconds, resetOrder, commandOrder, orderOf}
 use Rattle.buildable.specs.Fields.{offLineFor, multipleCountFor}

@@ -8,7 +8,7 @@ use lib.Dec.{eqb}
 use lib.ListN.{length, getD}
 use borrow.Author.Tests.{eqb-true}
 use Rattle.passthrough_fields.specs.Fields.{long, longest}
-use Rattle.passthrough_fields.specs.Length.{lengthOf}
+use Rattle.passthrough_length.specs.Length.{lengthOf}
 use Rattle.passthrough_order.specs.Order.{withData, orderOf}
 use Rattle.passthrough_checks.specs.Checks as Check
 use Rattle.passthrough_checks.specs.Checks.{wrongSize}

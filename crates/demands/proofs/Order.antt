@@ -11,7 +11,7 @@ use borrow.Author.Tests.{eqb-true, eqb-false, eq-eqb, ne-eqb, le-ltb}
 use Rattle.rules.specs.Bits.{flag}
 use Rattle.passthrough_fields.specs.Fields.{long, longest, protocol, tDir, ckCond, extend}
 use Rattle.passthrough_fields.specs.Helpers.{Whole}
-use Rattle.passthrough_fields.specs.Length.{lengthOf}
+use Rattle.passthrough_length.specs.Length.{lengthOf}
 use Rattle.passthrough_checks.proofs.Laws.{whole}
 use Rattle.passthrough_order.specs.declared.Order.{Order}
 use Rattle.passthrough_order.specs.Order.{reset, resetOrder, directionOf, orderOf}

@@ -9,7 +9,7 @@ use lib.ListN.{length}
 use borrow.Author.Tests.{eqb-true, ltb-true, eq-eqb, not-true}
 use Rattle.rules.specs.Bits.{bit, bits, flag}
 use Rattle.passthrough_fields.specs.Fields as Fields
-use Rattle.passthrough_fields.specs.Length.{lengthOf}
+use Rattle.passthrough_length.specs.Length.{lengthOf}
 use Rattle.passthrough_order.specs.declared.Order.{Order}
 use Rattle.passthrough_order.specs.Order.{fromDrive, toDrive, withData, reset, directionOf, quietSeconds, orderOf}
 use Rattle.passthrough_checks.specs.Checks.{wrongOpcode}

@@ -11,7 +11,7 @@ use Rattle.page83.specs.Page83.{driveDescriptor, page83}
 use Rattle.inquiry_checks.specs.Asked.{page}
 use Rattle.inquiry_checks.specs.Checks.{refusalOf as inquiryRefusal}
 use Rattle.inquiry.specs.Inquiry.{inquiry}
-use Rattle.passthrough_fields.specs.Length.{lengthOf}
+use Rattle.passthrough_length.specs.Length.{lengthOf}
 use Rattle.passthrough_order.specs.Order.{orderOf}
 use Rattle.passthrough_checks.specs.Checks.{refusalOf as submitRefusal}
 use Rattle.passthrough.specs.Submit.{submit}

@@ -6,7 +6,7 @@ use mathlib.Core.Bool.{Bool, false, cond, _&&_}
 use mathlib.Core.List.{List}
 use Prim.Native.Nat.{ℕ}
 use Rattle.passthrough_fields.specs.Fields as Fields
-use Rattle.passthrough_fields.specs.Length.{lengthOf}
+use Rattle.passthrough_length.specs.Length.{lengthOf}
 use Rattle.passthrough_order.specs.Order.{withData, reset}
 
 pub record Counts : Type 0 where

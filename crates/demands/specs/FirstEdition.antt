@@ -7,7 +7,7 @@ use lib.Dec.{eqb, ltb}
 use lib.ListN.{length, getD}
 use Rattle.rules.specs.Bits.{bit, bits, flag}
 use Rattle.rules.specs.First.{Check, _when_, first}
-use Rattle.passthrough_fields.specs.Length.{bytesIn}
+use Rattle.passthrough_length.specs.Length.{bytesIn}
 use Rattle.passthrough_order.specs.declared.Order.{Order}
 use Rattle.passthrough_order.specs.Order.{reset, quietSeconds, directionOf}
 use Rattle.passthrough_checks.specs.Checks.{wrongSize, wrongProtocol, waits, wrongLength, wrongDirection, noLength, tooLong}

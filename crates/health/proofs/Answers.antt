@@ -10,7 +10,7 @@ use Rattle.room.specs.Room.{written}
 use Rattle.refusals.specs.Refusal.{rowOf, refusedSense, checkCondition}
 use Rattle.sense.specs.Sense.{descriptor, isFixed, descriptorSense, senseData, registers as showing}
 use Rattle.passthrough_order.specs.Order.{orderOf}
-use Rattle.passthrough_fields.specs.Length.{lengthOf}
+use Rattle.passthrough_length.specs.Length.{lengthOf}
 use Rattle.passthrough_checks.specs.Checks as Check
 use Rattle.passthrough.specs.declared.Pending.{Pending}
 use Rattle.passthrough.specs.Submit as Submit

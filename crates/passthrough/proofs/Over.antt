@@ -8,7 +8,7 @@ use lib.ListN.{length}
 use Rattle.rules.proofs.First.{silent}
 use Rattle.refusals.specs.Refusal.{noStatus}
 use Rattle.passthrough_fields.specs.Fields.{protocol}
-use Rattle.passthrough_fields.specs.Length.{blockSize, lengthOf}
+use Rattle.passthrough_length.specs.Length.{blockSize, lengthOf}
 use Rattle.passthrough_order.specs.Order.{reset, resetOrder, commandOrder, orderOf}
 use Rattle.passthrough_checks.specs.Checks as Check
 use Rattle.passthrough.specs.declared.Pending.{Pending}

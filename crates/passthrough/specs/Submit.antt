@@ -9,7 +9,7 @@ use Rattle.refusals.specs.Refusal.{rowOf, refusedSense, noStatus, checkConditio
 use Rattle.sense.specs.Sense.{senseData, registers as told}
 use Rattle.passthrough_order.specs.declared.Order.{Order}
 use Rattle.passthrough_fields.specs.Fields.{protocol}
-use Rattle.passthrough_fields.specs.Length.{blockSize, lengthOf}
+use Rattle.passthrough_length.specs.Length.{blockSize, lengthOf}
 use Rattle.passthrough_order.specs.Order.{noOrder, orderOf}
 use Rattle.passthrough_checks.specs.Checks as Check
 use Rattle.passthrough.specs.declared.Pending.{Pending}

@@ -2,7 +2,6 @@
 // completion. The rules stand in specs/: Record, Submit and Complete.
 mod held;
 
-use passthrough_fields::length;
 use passthrough_fields::sent;
 use passthrough_order::Order;
 use passthrough_order::read;
@@ -153,10 +152,10 @@ impl Pending {
             let order = read::reset_order(command);
             return answer(held::taking(self, order), 0, refusals::NONE, order);
         }
-        let lacking = length::lacking(later, block, command);
+        let lacking = passthrough_length::lacking(later, block, command);
         let sent = sent::read(command);
-        let size = length::block_size(later, block, command);
-        let bytes = length::in_bytes(size, command, sent, declared);
+        let size = passthrough_length::block_size(later, block, command);
+        let bytes = passthrough_length::in_bytes(size, command, sent, declared);
         // With the checks above, T_LENGTH says by itself whether there are data.
         let has_data = passthrough_fields::t_length(command) != 0;
         let late = passthrough_checks::length_fault(has_data, lacking, bytes.0, declared);

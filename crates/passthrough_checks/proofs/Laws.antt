@@ -14,8 +14,9 @@ use Rattle.rules.proofs.Below.{all-below, at}
 use Rattle.rules.specs.First.{Check, first}
 use Rattle.rules.proofs.First.{Silent, silent, neither, first-answers, second-answers}
 use Rattle.passthrough_fields.specs.Fields.{long, longest, size, protocol, tLength, byteBlock, featuresNumber, countNumber}
-use Rattle.passthrough_fields.specs.Helpers.{Whole, Lent}
-use Rattle.passthrough_fields.specs.Length.{blockSize, lacking, bytesIn, lengthOf}
+use Rattle.passthrough_fields.specs.Helpers.{Whole}
+use Rattle.passthrough_length.specs.Helpers.{Lent}
+use Rattle.passthrough_length.specs.Length.{blockSize, lacking, bytesIn, lengthOf}
 use Rattle.passthrough_order.specs.Order.{withoutData, withData, reset}
 use Rattle.passthrough_checks.specs.Checks.{wrongSize, wrongProtocol, wrongLength, refusalOf}
 use Rattle.passthrough_checks.specs.Helpers.{formChecks, lengthChecks, commandChecks, earlyRefusal}

@@ -9,7 +9,7 @@ use lib.ListN.{length, getD}
 use Rattle.rules.specs.First.{Check, _when_, first}
 use Rattle.checksum.specs.Checksum.{damaged}
 use Rattle.passthrough_fields.specs.Fields.{long, longest, size, serviceAction, protocol, tDir, tLength, naca}
-use Rattle.passthrough_fields.specs.Length.{blockSize, lacking, lengthOf}
+use Rattle.passthrough_length.specs.Length.{blockSize, lacking, lengthOf}
 use Rattle.passthrough_order.specs.Order.{withoutData, fromDrive, toDrive, withData, reset}
 
 -- 1: registers not of 11 bytes, or a sense room below 22.

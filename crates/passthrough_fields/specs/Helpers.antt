@@ -1,9 +1,8 @@
 -- No rules: names for contracts of functions below the entry.
 use mathlib.Core.Path.{_≡_}
-use mathlib.Core.Bool.{Bool, true, false, not, _&&_, _||_}
+use mathlib.Core.Bool.{true}
 use mathlib.Core.List.{List}
 use Prim.Native.Nat.{ℕ, _≤_}
-use lib.Dec.{eqb}
 use lib.ListN.{length}
 use Rattle.passthrough_fields.specs.declared.sent.Sent.{Sent}
 use Rattle.passthrough_fields.specs.Fields.{long, longest, extend, auxiliary, register, device, ataCommand}
@@ -22,10 +21,6 @@ sentOf c =
       device = device c;
       command = ataCommand c;
     }
-
--- In the later edition a lent block has 512 bytes, or none where the drive gave none.
-abbrev pub Lent : Bool → List ℕ → Type 0
-Lent later block = (later && not (eqb (length block) 512 || eqb (length block) 0)) ≡ false
 
 -- The command has all bytes of its form.
 pub record Whole (command : List ℕ) : Type 0 where

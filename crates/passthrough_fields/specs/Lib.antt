@@ -1,4 +1,3 @@
--- Pass-through commands: their fields and their length.
+-- The fields of a pass-through command.
 pub mod Fields
-pub mod Length
 pub mod Helpers

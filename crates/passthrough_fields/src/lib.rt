@@ -1,6 +1,4 @@
-// Pass-through fields: ATA PASS-THROUGH (12), (16) and (32), field by field, and the length that they ask for. The rules stand in
-// specs/: Fields and Length.
-pub mod length;
+// Pass-through fields: ATA PASS-THROUGH (12), (16) and (32), field by field. The rules stand in specs/Fields.
 pub mod sent;
 
 ghost use mathlib.Core.Path.{_≡_};

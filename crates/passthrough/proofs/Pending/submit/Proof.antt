@@ -7,7 +7,7 @@ use borrow.Author.Tests.{eq-eqb, ne-eqb}
 use Rattle.rules.specs.First.{first}
 use Rattle.passthrough_fields.specs.Fields.{protocol}
 use Rattle.passthrough_fields.specs.Helpers.{Whole}
-use Rattle.passthrough_fields.specs.Length.{blockSize, lacking, lengthOf}
+use Rattle.passthrough_length.specs.Length.{blockSize, lacking, lengthOf}
 use Rattle.passthrough_order.specs.Order.{reset}
 use Rattle.passthrough_checks.specs.Checks.{refusalOf}
 use Rattle.passthrough_checks.specs.Helpers.{lengthChecks, earlyRefusal}

@@ -1,7 +1,7 @@
 -- `counted`: by what is counted.
 use borrow.Author.Needs.{needs}
-use Rattle.passthrough_fields.proofs.length.counted.Statement.{statement}
-use Rattle.passthrough_fields.proofs.length.counted.Tie as tie
+use Rattle.passthrough_length.proofs.counted.Statement.{statement}
+use Rattle.passthrough_length.proofs.counted.Tie as tie
 
 bytes-requires : tie.Need-bytes-requires
 bytes-requires c κs = search needs

@@ -1,10 +1,10 @@
 -- `bytes`: a size of 34 bits times a count of 16 fits 64 bits.
 use native.Mathlib.Nat.{lt-of-lt-of-le}
 use native.Mathlib.Omega.{arith}
-use Rattle.passthrough_fields.proofs.Laws.{product}
+use Rattle.passthrough_length.proofs.Laws.{product}
 use borrow.Author.Needs.{needs}
-use Rattle.passthrough_fields.proofs.length.Blocks.bytes.Statement.{statement}
-use Rattle.passthrough_fields.proofs.length.Blocks.bytes.Tie as tie
+use Rattle.passthrough_length.proofs.Blocks.bytes.Statement.{statement}
+use Rattle.passthrough_length.proofs.Blocks.bytes.Tie as tie
 
 cast-t3 : tie.Need-cast-t3
 cast-t3 c = search needs

@@ -1,10 +1,11 @@
-// The length rule. A count of blocks and a count of bytes are kept apart until the one multiplication; a block's size is a count of
-// bytes, too.
-use crate::sent::Sent;
+// Pass-through length: how many bytes of data a pass-through command asks for. A count of blocks and a count of bytes are kept apart
+// until the one multiplication; a block's size is a count of bytes, too. The rules stand in specs/Length.
+use passthrough_fields::sent::Sent;
 ghost use mathlib.Core.Path.{_≡_};
 ghost use Prim.Native.Nat.{_<_, _*_, _^_};
-ghost use Rattle.passthrough_fields.specs.Helpers.{Whole, Lent, sentOf};
-ghost use Rattle.passthrough_fields.specs.Length.{bytesIn, blockSize, inSectors, lacking as Length·lacking, lengthOf};
+ghost use Rattle.passthrough_fields.specs.Helpers.{Whole, sentOf};
+ghost use Rattle.passthrough_length.specs.Helpers.{Lent};
+ghost use Rattle.passthrough_length.specs.Length.{bytesIn, blockSize, inSectors, lacking as Length·lacking, lengthOf};
 
 // A count of blocks.
 pub struct Blocks(pub u16);
@@ -28,7 +29,7 @@ pub fn block_size(later: bool, block: &[u8], command: &[u8]) -> Bytes
     ensures size { λ r. ⌜ r .0 ≡ blockSize later (now (block .entry)) (now (command .entry)) ⌝ }
     ensures width { λ r. ⌜ r .0 < 2 ^ 34 ⌝ }
 {
-    if later & crate::t_type(command) & (block.len() == 512) {
+    if later & passthrough_fields::t_type(command) & (block.len() == 512) {
         return Bytes(identify::sector_size(&block[..512]));
     }
     Bytes(512)
@@ -39,8 +40,10 @@ fn in_sectors(command: &[u8]) -> bool
     requires { ⌜ Whole (now command) ⌝ }
     ensures { λ r. ⌜ r ≡ inSectors (now (command .entry)) ⌝ }
 {
-    let t = crate::t_length(command);
-    crate::t_type(command) & crate::byte_block(command) & ((t == 1) | (t == 2))
+    let t = passthrough_fields::t_length(command);
+    passthrough_fields::t_type(command)
+        & passthrough_fields::byte_block(command)
+        & ((t == 1) | (t == 2))
 }
 
 // Whether their size is needed, and there is no block that tells it.
@@ -71,11 +74,11 @@ pub fn in_bytes(size: Bytes, command: &[u8], sent: Sent, declared: u32) -> Bytes
     requires { ⌜ Whole (now command) × (size .0 < 2 ^ 34) × (sent ≡ sentOf (now command)) ⌝ }
     ensures { λ r. ⌜ r .0 ≡ lengthOf (size .0) (now (command .entry)) declared ⌝ }
 {
-    let t = crate::t_length(command);
+    let t = passthrough_fields::t_length(command);
     if t == 0 {
         return Bytes(0);
     }
-    let blocks = crate::byte_block(command);
+    let blocks = passthrough_fields::byte_block(command);
     if t == 1 {
         return counted(blocks, size, sent.features);
     }

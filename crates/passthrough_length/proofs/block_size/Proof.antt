@@ -7,10 +7,10 @@ use lib.Dec.{eqb}
 use lib.ListN.{length, take}
 use lib.Seq.{take-all, length-take-le}
 use borrow.Author.Tests.{eqb-true}
-use Rattle.passthrough_fields.proofs.Laws.{no-block}
+use Rattle.passthrough_length.proofs.Laws.{no-block}
 use borrow.Author.Needs.{needs}
-use Rattle.passthrough_fields.proofs.length.block_size.Statement.{statement}
-use Rattle.passthrough_fields.proofs.length.block_size.Tie as tie
+use Rattle.passthrough_length.proofs.block_size.Statement.{statement}
+use Rattle.passthrough_length.proofs.block_size.Tie as tie
 
 t-type-requires : tie.Need-t-type-requires
 t-type-requires c κs = search needs

@@ -7,8 +7,8 @@ use lib.Dec.{eqb, eqb·suc-zero}
 use lib.ListN.{length}
 use borrow.Author.Tests.{eq-eqb, ne-eqb}
 use Rattle.identify.specs.Sector.{sectorSize}
-use Rattle.passthrough_fields.specs.Helpers.{Lent}
-use Rattle.passthrough_fields.specs.Length.{bytesIn}
+use Rattle.passthrough_length.specs.Helpers.{Lent}
+use Rattle.passthrough_length.specs.Length.{bytesIn}
 use lib.Pow.{pow-pos}
 use native.Mathlib.Nat.{le-of-lt, lt-of-le-of-lt, mul-le-mul-right, mul-lt-mul-of-pos-left}
 

@@ -1,7 +1,7 @@
 -- `lacking`: by the edition and the block.
 use borrow.Author.Needs.{needs}
-use Rattle.passthrough_fields.proofs.length.lacking.Statement.{statement}
-use Rattle.passthrough_fields.proofs.length.lacking.Tie as tie
+use Rattle.passthrough_length.proofs.lacking.Statement.{statement}
+use Rattle.passthrough_length.proofs.lacking.Tie as tie
 
 in-sectors-requires : tie.Need-in-sectors-requires
 in-sectors-requires c κs = search needs

@@ -1,11 +1,11 @@
 -- `in_bytes`: by T_LENGTH.
 use mathlib.Core.Path.{ap}
 use Rattle.passthrough_fields.specs.declared.sent.Sent.{Sent}
-use Rattle.passthrough_fields.specs.Length.{lengthOf}
-use Rattle.passthrough_fields.proofs.Laws.{found, passed, counts, by-number}
+use Rattle.passthrough_length.specs.Length.{lengthOf}
+use Rattle.passthrough_length.proofs.Laws.{found, passed, counts, by-number}
 use borrow.Author.Needs.{needs}
-use Rattle.passthrough_fields.proofs.length.in_bytes.Statement.{statement}
-use Rattle.passthrough_fields.proofs.length.in_bytes.Tie as tie
+use Rattle.passthrough_length.proofs.in_bytes.Statement.{statement}
+use Rattle.passthrough_length.proofs.in_bytes.Tie as tie
 
 t-length-requires : tie.Need-t-length-requires
 t-length-requires c κs = search needs

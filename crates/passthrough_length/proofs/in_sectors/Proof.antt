@@ -1,7 +1,7 @@
 -- `in_sectors`: the three fields.
 use borrow.Author.Needs.{needs}
-use Rattle.passthrough_fields.proofs.length.in_sectors.Statement.{statement}
-use Rattle.passthrough_fields.proofs.length.in_sectors.Tie as tie
+use Rattle.passthrough_length.proofs.in_sectors.Statement.{statement}
+use Rattle.passthrough_length.proofs.in_sectors.Tie as tie
 
 t-length-requires : tie.Need-t-length-requires
 t-length-requires c κs = search needs

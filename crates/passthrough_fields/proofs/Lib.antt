@@ -1,2 +1,0 @@
--- The laws of pass-through commands.
-pub mod Laws

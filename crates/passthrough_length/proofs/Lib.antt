@@ -1,0 +1,2 @@
+-- The laws of the length.
+pub mod Laws

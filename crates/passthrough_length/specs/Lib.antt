@@ -1,0 +1,3 @@
+-- The length that a pass-through command asks for.
+pub mod Length
+pub mod Helpers
