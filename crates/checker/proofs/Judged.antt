@@ -9,8 +9,8 @@ use native.Mathlib.Omega.{arith}
 use lib.Dec.{eqb}
 use lib.ListN.{length, getD, length-drop}
 use Rattle.checksum.specs.Checksum.{damaged}
-use Rattle.identify.specs.Drive.{equal}
-use Rattle.identify.proofs.Drive.{equal-of, equal-same}
+use Rattle.identify.specs.Bytes.{equal}
+use Rattle.identify.proofs.Bytes.{equal-of, equal-same}
 use Rattle.port.specs.declared.Ports.{Ports}
 use Rattle.port.specs.Ports.{relativeChosen, isPort, wrongPort}
 use Rattle.page83.specs.Page83.{driveDescriptor, page83}

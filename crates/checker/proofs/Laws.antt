@@ -8,8 +8,9 @@ use lib.Dec.{eqb}
 use lib.ListN.{length, take, drop, length-append, length-take, length-drop, length-replicate}
 use lib.Seq.{take-all}
 use borrow.Author.Tests.{eq-eqb, ne-eqb, eqb-true}
-use Rattle.identify.specs.Drive.{carriesName, equal}
-use Rattle.identify.proofs.Drive.{equal-of, equal-same, never}
+use Rattle.identify.specs.Bytes.{equal}
+use Rattle.identify.specs.Names.{carriesName}
+use Rattle.identify.proofs.Bytes.{equal-of, equal-same, never}
 use Rattle.agreement.specs.Agreed.{agreed}
 use Rattle.agreement.proofs.Laws.{agreed-self, agreed-whole, agreed-own, then-second}
 use Rattle.port.specs.declared.Ports.{Ports}

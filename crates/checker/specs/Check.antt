@@ -6,7 +6,7 @@ use lib.Dec.{eqb}
 use lib.ListN.{take, drop}
 use Rattle.rules.specs.First.{Check, _when_, first}
 use Rattle.checksum.specs.Checksum.{damaged}
-use Rattle.identify.specs.Drive.{equal}
+use Rattle.identify.specs.Bytes.{equal}
 use Rattle.port.specs.declared.Ports.{Ports}
 use Rattle.page83.specs.Page83.{page83}
 use Rattle.pages.specs.Page.{standard, page00, page80, page89}

@@ -2,7 +2,7 @@
 use mathlib.Core.Bool.{true, cond}
 use mathlib.Core.List.{List}
 use Prim.Native.Nat.{ℕ}
-use Rattle.identify.specs.Drive.{equal}
+use Rattle.identify.specs.Bytes.{equal}
 use Rattle.capture.specs.Capture.{field, stands, content}
 use Rattle.agreement.specs.Agreed.{agreed}
 use Rattle.checker.specs.declared.Held.{Held}

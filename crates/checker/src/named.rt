@@ -8,7 +8,7 @@ ghost use mathlib.Core.List.{List};
 ghost use Prim.Native.Nat.{_+_, _≤_};
 ghost use lib.ListN.{length, drop};
 ghost use Rattle.identify.specs.Block.{serial, model, name};
-ghost use Rattle.identify.specs.Drive.{carriesName};
+ghost use Rattle.identify.specs.Names.{carriesName};
 ghost use Rattle.texts.specs.Text.{turned, spaced};
 ghost use Rattle.page83.specs.Helpers.{driveEnd};
 ghost use Rattle.port.specs.Ports.{relativePart, sasPart, portsPart};

@@ -13,7 +13,7 @@ use Rattle.rules.proofs.First.{silent}
 use Rattle.laws.proofs.Laws.{cut-to-more}
 use Rattle.checksum.specs.Checksum.{damaged}
 use Rattle.identify.specs.Bytes.{Bytes, no-more, more}
-use Rattle.identify.specs.Drive.{carriesName}
+use Rattle.identify.specs.Names.{carriesName}
 use Rattle.port.specs.declared.Ports.{Ports}
 use Rattle.port.specs.Ports.{relativeChosen, sasChosen, wrongAddress, wrongPort}
 use Rattle.page83.specs.Page83.{page83}

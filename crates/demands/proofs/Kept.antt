@@ -1,6 +1,6 @@
 -- Every promise of specs/Promises, proved.
 use mathlib.Core.Path.{_≡_, sym, _∙_}
-use Rattle.identify.proofs.Words.{same-drive-by-words}
+use Rattle.drive.proofs.Words.{same-drive-by-words}
 use Rattle.demands.specs.Promises.{Settled, OneOutcome, Promises}
 use Rattle.demands.proofs.Refusals.{refusals-change-nothing}
 use Rattle.demands.proofs.Soundings.{soundings-hold, later-soundings-hold}

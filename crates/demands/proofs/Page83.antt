@@ -13,15 +13,18 @@ use Rattle.rules.proofs.First.{silent, neither}
 use Rattle.room.specs.Room.{written}
 use Rattle.checksum.specs.Checksum.{damaged}
 use Rattle.checksum.proofs.Laws.{unsigned-passes}
-use Rattle.identify.specs.Bytes.{Bytes, no-more, more}
+use Rattle.identify.specs.Bytes.{Bytes, no-more, more, equal}
 use Rattle.identify.specs.Block.{words, serial, model, name}
 use Rattle.texts.specs.Text.{turned, space, spaced}
-use Rattle.identify.specs.Drive.{someBit, saysNamed, carriesName, equal, sameDrive}
+use Rattle.identify.specs.Names.{someBit, saysNamed, carriesName}
+use Rattle.drive.specs.Drive.{sameDrive}
 use Rattle.identify.proofs.Block.{length-name}
 use Rattle.identify.proofs.Words.{field-word}
 use Rattle.texts.proofs.Text.{length-turned}
 use Rattle.laws.proofs.Laws.{turned-twice, turned-injective, turned-spaced}
-use Rattle.identify.proofs.Drive.{named-some-bit, said-named, equal-of, equal-same, OneName, OneText, same-drive-means, same-drive-when}
+use Rattle.identify.proofs.Bytes.{equal-of, equal-same}
+use Rattle.identify.proofs.Names.{named-some-bit, said-named}
+use Rattle.drive.proofs.Drive.{OneName, OneText, same-drive-means, same-drive-when}
 use Rattle.port.specs.declared.Ports.{Ports}
 use Rattle.port.specs.Ports.{portsPart, wrongAddress, wrongPort}
 use Rattle.page83.specs.Page83 as Page83

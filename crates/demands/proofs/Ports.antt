@@ -11,8 +11,8 @@ use borrow.Author.Tests.{eq-eqb, ne-eqb, eqb-true, eqb-false, not-true}
 use Rattle.rules.specs.Bits.{bit, flag}
 use Rattle.room.specs.Room.{written}
 use Rattle.room.proofs.Laws.{written-front, next}
-use Rattle.identify.specs.Drive.{equal}
-use Rattle.identify.proofs.Drive.{equal-same}
+use Rattle.identify.specs.Bytes.{equal}
+use Rattle.identify.proofs.Bytes.{equal-same}
 use Rattle.port.specs.declared.Ports.{Ports}
 use Rattle.port.specs.Ports.{relativeChosen, sasChosen, relativeHead, relativePort, sasPort, relativePart, sasPart, portsPart, isPort, wrongAddress, wrongPort}
 use Rattle.port.proofs.Laws.{right-address, right-port}

@@ -15,8 +15,8 @@ use Rattle.room.specs.Room.{written}
 use Rattle.room.proofs.Laws.{written-front, length-written}
 use Rattle.checksum.specs.Checksum.{anyDamaged}
 use Rattle.checksum.proofs.Laws.{all-pass, each-passes}
-use Rattle.identify.specs.Drive.{sameDrive}
-use Rattle.identify.proofs.Drive.{same-drive-self, same-drive-turned-round, same-drive-through}
+use Rattle.drive.specs.Drive.{sameDrive}
+use Rattle.drive.proofs.Drive.{same-drive-self, same-drive-turned-round, same-drive-through}
 use Rattle.roll.specs.Roll.{blocksIn, blocks, blockAt, known, met, drivesFrom, drives, rowIn, rows, checks, refusalOf, Outcome, roll}
 use Rattle.roll.specs.Roll as Roll
 use Rattle.roll.proofs.Laws.{blocks-more, length-blocks, block-of, known-append, known-met, known-drives, drives-append, drives-more, row-same, row-kept, row-new, rows-more, each-known, row-at, length-rows, read-row, unknown, same-either-way}

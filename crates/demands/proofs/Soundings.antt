@@ -2,7 +2,8 @@
 use mathlib.Core.Path.{refl}
 use Rattle.texts.specs.Text.{turned}
 use Rattle.checksum.specs.Checksum.{damaged, damagedBy}
-use Rattle.identify.specs.Drive.{someBit, carriesName, equal}
+use Rattle.identify.specs.Bytes.{equal}
+use Rattle.identify.specs.Names.{someBit, carriesName}
 use Rattle.identify.specs.Sector.{sectorSize}
 use Rattle.sense.specs.Sense.{isFixed, descriptorSense, senseData}
 use Rattle.refusals.specs.Refusal.{rowOf, refusedSense}

@@ -18,8 +18,9 @@ use Rattle.refusals.specs.Refusal.{noStatus, checkCondition}
 use Rattle.sense.specs.Carried.{sensed, inFixed, inDescriptor}
 use Rattle.identify.specs.Block.{serial, model, name}
 use Rattle.identify.specs.Bytes.{Bytes}
-use Rattle.identify.specs.Words.{NameInWords, TextsInWords}
-use Rattle.identify.specs.Drive.{carriesName, sameDrive}
+use Rattle.identify.specs.Names.{carriesName}
+use Rattle.drive.specs.Drive.{sameDrive}
+use Rattle.drive.specs.Words.{NameInWords, TextsInWords}
 use Rattle.port.specs.declared.Ports.{Ports}
 use Rattle.port.specs.Ports.{relativeChosen, sasChosen, wrongAddress, wrongPort}
 use Rattle.page83.specs.Page83 as Page83

@@ -6,7 +6,7 @@ use mathlib.Core.List.{List, [], _∷_, _++_}
 use Prim.Native.Nat.{ℕ}
 use lib.Dec.{eqb}
 use lib.ListN.{length, drop, replicate}
-use Rattle.identify.specs.Drive.{equal}
+use Rattle.identify.specs.Bytes.{equal}
 use Rattle.sense.specs.Sense.{descriptor}
 use Rattle.refusals.specs.Refusal.{rowOf, refusedSense, good, checkCondition, noStatus}
 use Rattle.inquiry_checks.specs.Request.{request}

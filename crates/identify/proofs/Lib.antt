@@ -1,5 +1,5 @@
--- The laws of blocks and drives, for the crates above.
+-- The laws of blocks and names, for the crates above.
 pub mod Block
-pub mod Drive
-mod Number
+pub mod Bytes
+pub mod Names
 pub mod Words

@@ -2,7 +2,7 @@
 use mathlib.Core.Path.{_≡_, refl, sym, ap, _∙_}
 use mathlib.Core.Bool.{true, false, and-eq-true-iff, true≢false, false≢true}
 use mathlib.Core.List.{List, [], _∷_}
-use mathlib.Core.Logic.{_⊎_, inl, inr, _↔_, ⊎-elim}
+use mathlib.Core.Logic.{_↔_, ⊎-elim}
 use Prim.Native.Nat.{ℕ, zero, suc, _+_, _*_, _-_, _/_, _%_, _≤_, _<_}
 use native.Mathlib.Nat.{eq-zero-or-pos}
 use native.Mathlib.Omega.{arith}
@@ -10,10 +10,11 @@ use lib.ListN.{length, getD, take, drop}
 use lib.Seq.{drop-cons, getD-take, getD-drop}
 use Rattle.identify.specs.Block.{word, words, name}
 use Rattle.identify.specs.Bytes.{Bytes, no-more, more}
-use Rattle.identify.specs.Words.{wordsFrom, inBytes, SameWords, SomeWord, NoWord, Named, Nameless, NameInWords, TextsInWords}
-use Rattle.identify.specs.Drive.{someBit, saysNamed, carriesName, sameDrive}
+use Rattle.identify.specs.Words.{wordsFrom, inBytes, SameWords, SomeWord, NoWord, Named, Nameless}
+use Rattle.identify.specs.Names.{someBit, saysNamed, carriesName}
 use Rattle.identify.proofs.Block.{length-words}
-use Rattle.identify.proofs.Drive.{never, some-bit-at, said-named, same-drive-means, same-drive-when}
+use Rattle.identify.proofs.Bytes.{never}
+use Rattle.identify.proofs.Names.{some-bit-at, said-named}
 
 -- Any element of a list of bytes is a byte; behind the end stands 0.
 byte-at : {s : List ℕ} → Bytes s → (k : ℕ) → getD s k 0 < 0x100
@@ -112,28 +113,15 @@ field-word w block {low} {high} e = rw (byte 0 (2 * w) (omega arith) (omega arit
 
 -- A block of 512 bytes carries a name, or carries none, by its words.
 module _ {block : List ℕ} (b : Bytes block) (l : length block ≡ 512) where
-  named-by-words : (carriesName block ≡ true) ↔ Named block
+  pub named-by-words : (carriesName block ≡ true) ↔ Named block
   unfolding carriesName
   named-by-words =
       let both = and-eq-true-iff (saysNamed (word block 87)) (someBit (name block)) in
       let some = some-word 108 111 b (omega arith) in
       (λ e. (both .0 e .0, some .0 (both .0 e .1)), λ n. both .1 (n .0, some .1 (n .1)))
 
-  nameless-by-words : (carriesName block ≡ false) ↔ Nameless block
+  pub nameless-by-words : (carriesName block ≡ false) ↔ Nameless block
   nameless-by-words = (
     λ e s. no-word 108 111 b (omega arith) .0 (sym (said-named block s) ∙ e),
     λ none. never (carriesName block) (λ e. let n = named-by-words .0 e in n .1 .3 (none (n .0) (n .1 .0) (n .1 .1) (n .1 .2))),
   )
-
--- Demand 3's condition, over the words of two blocks of 512 bytes.
-module _ {a b : List ℕ} (ba : Bytes a) (bb : Bytes b) (la : length a ≡ 512) (lb : length b ≡ 512) where
-  pub same-drive-by-words : (sameDrive a b ≡ true) ↔ (NameInWords a b ⊎ TextsInWords a b)
-  same-drive-by-words =
-      let named-a = named-by-words ba la in
-      let named-b = named-by-words bb lb in
-      let none-a = nameless-by-words ba la in
-      let none-b = nameless-by-words bb lb in
-      let same = same-words 108 111 ba bb (omega arith) (omega arith) in (
-        λ e. ⊎-elim (λ w. inl (named-a .0 (w .0), named-b .0 (w .1), same .0 (w .2))) (λ w. inr (none-a .0 (w .0), none-b .0 (w .1), w .2, w .3)) (same-drive-means a b e),
-        λ w. same-drive-when a b (⊎-elim (λ n. inl (named-a .1 (n .0), named-b .1 (n .1), same .1 (n .2))) (λ t. inr (none-a .1 (t .0), none-b .1 (t .1), t .2, t .3)) w),
-      )

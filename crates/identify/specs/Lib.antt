@@ -1,7 +1,6 @@
--- The IDENTIFY block, and which drive it speaks of.
+-- The IDENTIFY block, and whether it carries a name.
 pub mod Block
 pub mod Bytes
-pub mod Drive
+pub mod Names
 pub mod Sector
 pub mod Words
-pub mod Helpers

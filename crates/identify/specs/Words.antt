@@ -3,9 +3,8 @@ use mathlib.Core.Path.{_≡_}
 use mathlib.Core.Bool.{true}
 use mathlib.Core.List.{List, [], _∷_}
 use Prim.Native.Nat.{ℕ, zero, suc, _/_, _%_, _≤_}
-use Rattle.texts.specs.Text.{spaced}
-use Rattle.identify.specs.Block.{word, serial, model}
-use Rattle.identify.specs.Drive.{saysNamed}
+use Rattle.identify.specs.Block.{word}
+use Rattle.identify.specs.Names.{saysNamed}
 
 -- Words `first`, `first` + 1 and so on, n of them.
 unfoldable pub wordsFrom : ℕ → ℕ → List ℕ → List ℕ
@@ -35,11 +34,3 @@ Named block = (saysNamed (word block 87) ≡ true) × SomeWord 108 111 block
 
 abbrev pub Nameless : List ℕ → Type 0
 Nameless block = saysNamed (word block 87) ≡ true → NoWord 108 111 block
-
--- Both blocks carry a name, words 108 to 111, and it is the same one.
-abbrev pub NameInWords : List ℕ → List ℕ → Type 0
-NameInWords a b = Named a × Named b × SameWords 108 111 a b
-
--- Neither carries one, and model and serial number are equal with their zero bytes as spaces.
-abbrev pub TextsInWords : List ℕ → List ℕ → Type 0
-TextsInWords a b = Nameless a × Nameless b × (spaced (model a) ≡ spaced (model b)) × (spaced (serial a) ≡ spaced (serial b))

@@ -1,15 +1,12 @@
-// Identify: what the board reads in a drive's IDENTIFY block. The rules stand in specs/: Block (words and fields), Drive (carries a
-// name, the same drive) and Sector (the size of a logical sector).
-mod eights;
-
+// Identify: what the board reads in a drive's IDENTIFY block. The rules stand in specs/: Block (words and fields), Names (whether it
+// carries a name), Sector (the size of a logical sector) and Bytes (the same bytes).
 ghost use mathlib.Core.Path.{_≡_};
-ghost use mathlib.Core.Bool.{_&&_};
 ghost use mathlib.Core.List.{List};
 ghost use Prim.Native.Nat.{_<_, _^_};
 ghost use lib.ListN.{length};
-ghost use Rattle.texts.specs.Text.{spaced};
 ghost use Rattle.identify.specs.Block.{word as Block·word, serial as Block·serial, firmware as Block·firmware, model as Block·model, name as Block·name};
-ghost use Rattle.identify.specs.Drive.{someBit, saysNamed, carriesName, equal, sameDrive};
+ghost use Rattle.identify.specs.Bytes.{equal};
+ghost use Rattle.identify.specs.Names.{someBit, saysNamed, carriesName};
 ghost use Rattle.identify.specs.Sector.{tellsSize, sectorSize};
 
 fn wide(byte: u8) -> u16
@@ -73,7 +70,7 @@ pub fn some_bit(bytes: &[u8]) -> bool
 }
 
 // Whether word 87 says that there is a name.
-fn says_named(w: u16) -> bool
+pub fn says_named(w: u16) -> bool
     ensures { λ r. ⌜ r ≡ saysNamed w ⌝ }
 {
     (w / 16384 % 4 == 1) & (w / 256 % 2 == 1)
@@ -105,42 +102,6 @@ pub fn same_bytes(a: &[u8], b: &[u8]) -> bool
         i += 1;
     }
     true
-}
-
-fn same_name(a: &[u8], b: &[u8]) -> bool
-    requires { ⌜ (length (now a) ≡ 512) × (length (now b) ≡ 512) ⌝ }
-    ensures { λ r. ⌜ r ≡ equal (Block·name (now (a .entry))) (Block·name (now (b .entry))) ⌝ }
-{
-    eights::number(name(a)) == eights::number(name(b))
-}
-
-// Serial numbers nearly always differ, models seldom.
-fn same_texts(a: &[u8], b: &[u8]) -> bool
-    requires { ⌜ (length (now a) ≡ 512) × (length (now b) ≡ 512) ⌝ }
-    ensures { λ r. ⌜ r ≡ (equal (spaced (Block·model (now (a .entry)))) (spaced (Block·model (now (b .entry)))) && equal (spaced (Block·serial (now (a .entry)))) (spaced (Block·serial (now (b .entry))))) ⌝ }
-{
-    if eights::same_text(serial(a), serial(b)) {
-        return eights::same_text(model(a), model(b));
-    }
-    false
-}
-
-// Whether two blocks are of the same drive, where it is known whether the second carries a name. Two names or two texts nearly always
-// differ, so that the first block is asked last whether it carries one; where it has the second's name, only its word 87.
-pub fn same_drive(a: &[u8], b: &[u8], named: bool) -> bool
-    requires { ⌜ (length (now a) ≡ 512) × (length (now b) ≡ 512) × (named ≡ carriesName (now b)) ⌝ }
-    ensures { λ r. ⌜ r ≡ sameDrive (now (a .entry)) (now (b .entry)) ⌝ }
-{
-    if named {
-        if same_name(a, b) {
-            return says_named(word(a, 87));
-        }
-        return false;
-    }
-    if same_texts(a, b) {
-        return !carries_name(a);
-    }
-    false
 }
 
 // Whether word 106 says that words 117 and 118 tell the size of a logical sector.

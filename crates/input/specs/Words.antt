@@ -4,7 +4,7 @@ use mathlib.Core.List.{List, [], _∷_}
 use Prim.Native.Nat.{ℕ}
 use lib.Dec.{eqb}
 use lib.ListN.{getD}
-use Rattle.identify.specs.Drive.{equal}
+use Rattle.identify.specs.Bytes.{equal}
 use Rattle.input.specs.declared.Wanted.{Wanted}
 use Rattle.input.specs.declared.Wanted.the-variants.{Read, Help, Version, Complained}
 

@@ -9,7 +9,7 @@ use native.Mathlib.Numerals.{add-one}
 use native.Mathlib.Omega.{arith}
 use lib.ListN.{length, getD, take, drop, drop-of-length-le, length-drop}
 use lib.Seq.{drop-cons, drop-drop, take-all}
-use Rattle.identify.specs.Drive.{equal}
+use Rattle.identify.specs.Bytes.{equal}
 use Rattle.order_words.specs.Words.{space, isMark, upTo, parts, placeOf}
 
 -- A loop that looks for a mark, before its turn i: none has come, so that what is left has the first.

@@ -5,7 +5,7 @@ use Prim.Native.Nat.{ℕ, suc}
 use Prim.Native.Char.{code}
 use Prim.Native.String.{String, [] as end, _∷_ as _then_}
 use lib.Dec.{eqb}
-use Rattle.identify.specs.Drive.{equal}
+use Rattle.identify.specs.Bytes.{equal}
 
 -- The bytes of a text.
 abbrev pub bytes : String → List ℕ

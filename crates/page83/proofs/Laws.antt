@@ -11,7 +11,7 @@ use Rattle.room.proofs.Laws.{length-written, written-front}
 use Rattle.checksum.specs.Checksum.{damaged}
 use Rattle.identify.specs.Block.{serial, model, name}
 use Rattle.texts.specs.Text.{turned, spaced}
-use Rattle.identify.specs.Drive.{carriesName}
+use Rattle.identify.specs.Names.{carriesName}
 use Rattle.identify.proofs.Block.{length-serial, length-model, length-name}
 use Rattle.texts.proofs.Text.{length-turned, length-spaced}
 use Rattle.port.specs.declared.Ports.{Ports}

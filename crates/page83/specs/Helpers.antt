@@ -5,7 +5,7 @@ use mathlib.Core.List.{List, _++_}
 use Prim.Native.Nat.{ℕ, _+_, _≤_}
 use lib.ListN.{length}
 use Rattle.room.specs.Room.{Wrote}
-use Rattle.identify.specs.Drive.{carriesName}
+use Rattle.identify.specs.Names.{carriesName}
 use Rattle.port.specs.declared.Ports.{Ports}
 use Rattle.port.specs.Ports.{portsPart}
 use Rattle.port.specs.Helpers.{portsSize}

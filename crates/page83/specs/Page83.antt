@@ -9,7 +9,7 @@ use Rattle.room.specs.Room.{written}
 use Rattle.checksum.specs.Checksum.{damaged}
 use Rattle.identify.specs.Block.{serial, model, name}
 use Rattle.texts.specs.Text.{turned, spaced}
-use Rattle.identify.specs.Drive.{carriesName}
+use Rattle.identify.specs.Names.{carriesName}
 use Rattle.port.specs.declared.Ports.{Ports}
 use Rattle.page83.specs.declared.Written.{Written}
 use Rattle.port.specs.Ports.{portsPart, wrongAddress, wrongPort}

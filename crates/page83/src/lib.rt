@@ -8,7 +8,7 @@ ghost use Prim.Native.Nat.{_+_, _≤_};
 ghost use lib.ListN.{length};
 ghost use Rattle.room.specs.Room.{Wrote};
 ghost use Rattle.identify.specs.Block.{serial, model, name};
-ghost use Rattle.identify.specs.Drive.{carriesName};
+ghost use Rattle.identify.specs.Names.{carriesName};
 ghost use Rattle.texts.specs.Text.{turned, spaced};
 ghost use Rattle.port.specs.Ports.{portsPart, wrongAddress};
 ghost use Rattle.page83.specs.Page83.{page83, head, nameDescriptor, textDescriptor, outcome, write as Page83·write};

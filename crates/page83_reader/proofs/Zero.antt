@@ -10,8 +10,8 @@ use lib.Dec.{eqb}
 use lib.ListN.{length, getD, take, drop, length-take, length-drop, List·getD-eq-default}
 use lib.Seq.{take-all, getD-take}
 use borrow.Author.Tests.{eq-eqb, ne-eqb}
-use Rattle.identify.specs.Drive.{equal}
-use Rattle.identify.proofs.Drive.{not-equal}
+use Rattle.identify.specs.Bytes.{equal}
+use Rattle.identify.proofs.Bytes.{not-equal}
 use Rattle.page83.specs.Page83.{head}
 use Rattle.page83_reader.specs.Reader.{noZero, headed, twoBytes, relativeIn, tellsSas, sasOrNothing}
 

@@ -6,7 +6,8 @@ use lib.Dec.{eqb, leb}
 use lib.ListN.{length, getD, take, drop, replicate}
 use Rattle.rules.specs.Bits.{flag}
 use Rattle.room.specs.Room.{written}
-use Rattle.identify.specs.Drive.{someBit, equal}
+use Rattle.identify.specs.Bytes.{equal}
+use Rattle.identify.specs.Names.{someBit}
 use Rattle.port.specs.declared.Ports.{Ports}
 use Rattle.port.specs.Ports.{relativeHead, sasPort, isPort}
 use Rattle.page83.specs.Page83.{head, nameDescriptor, textDescriptor}

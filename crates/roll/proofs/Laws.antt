@@ -12,8 +12,8 @@ use lib.Seq.{drop-drop, take-all}
 use Rattle.room.specs.Room.{written}
 use Rattle.room.proofs.Laws.{written-front, written-append}
 use borrow.Author.Tests.{lt-ltb, le-ltb}
-use Rattle.identify.specs.Drive.{sameDrive}
-use Rattle.identify.proofs.Drive.{same-drive-self, same-drive-turned-round, same-drive-through}
+use Rattle.drive.specs.Drive.{sameDrive}
+use Rattle.drive.proofs.Drive.{same-drive-self, same-drive-turned-round, same-drive-through}
 use Rattle.roll.specs.Roll.{blocksIn, blockAt, known, met, drivesFrom, drives, rowIn, rows}
 use Rattle.roll.specs.Helpers.{Found, Rolled, nextRow}
 

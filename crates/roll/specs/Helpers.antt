@@ -6,7 +6,7 @@ use Prim.Native.Nat.{ℕ, _+_, _≤_, _<_}
 use lib.Dec.{ltb}
 use lib.ListN.{length, getD}
 use Rattle.room.specs.Room.{written}
-use Rattle.identify.specs.Drive.{sameDrive}
+use Rattle.drive.specs.Drive.{sameDrive}
 use Rattle.roll.specs.declared.Row.{Row}
 use Rattle.roll.specs.Roll.{blocksIn, blockAt, drives, rows}
 

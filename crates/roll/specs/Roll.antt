@@ -7,7 +7,7 @@ use lib.ListN.{length, take, drop}
 use Rattle.rules.specs.First.{Check, _when_, first}
 use Rattle.room.specs.Room.{written}
 use Rattle.checksum.specs.Checksum.{anyDamaged}
-use Rattle.identify.specs.Drive.{sameDrive}
+use Rattle.drive.specs.Drive.{sameDrive}
 use Rattle.roll.specs.declared.Counted.{Counted}
 
 -- The first `count` blocks of 512 bytes, which stand one after the other in one buffer; and all of them.

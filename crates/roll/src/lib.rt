@@ -35,7 +35,7 @@ fn first_of(bytes: &[u8], i: usize) -> usize
     let named = identify::carries_name(block);
     let mut j = 0;
     while j < i {
-        if identify::same_drive(block_at(bytes, j), block, named) {
+        if drive::same_drive(block_at(bytes, j), block, named) {
             return j;
         }
         j += 1;

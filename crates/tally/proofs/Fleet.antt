@@ -11,7 +11,7 @@ use lib.Seq.{getD-set-same, getD-set-other}
 use borrow.Author.Tests.{eq-eqb, ne-eqb, eqb-true, eqb-false, not-true}
 use Rattle.rules.specs.Bits.{flag}
 use Rattle.checksum.specs.Checksum.{sumOf, damaged}
-use Rattle.identify.specs.Drive.{carriesName}
+use Rattle.identify.specs.Names.{carriesName}
 use Rattle.classes.specs.Classes.{ultraDma, majorVersion}
 use Rattle.classes.proofs.Masked.{mode-within, version-within}
 use Rattle.tally.specs.declared.Census.{Census}

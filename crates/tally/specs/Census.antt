@@ -7,7 +7,7 @@ use lib.ListN.{length, getD, set, replicate}
 use Rattle.rules.specs.Bits.{flag}
 use Rattle.rules.specs.First.{Check, _when_, first}
 use Rattle.checksum.specs.Checksum.{sumOf, damaged}
-use Rattle.identify.specs.Drive.{carriesName}
+use Rattle.identify.specs.Names.{carriesName}
 use Rattle.classes.specs.Classes.{ultraDma, majorVersion}
 use Rattle.tally.specs.declared.Census.{Census}
 use Rattle.tally.specs.declared.Fed.{Fed}

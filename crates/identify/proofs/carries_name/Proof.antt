@@ -3,7 +3,7 @@ use mathlib.Core.Path.{_≡_, _∙_, ap, sym}
 use mathlib.Core.Bool.{true, false, and-true, and-false}
 use native.Mathlib.Omega.{arith}
 use Rattle.identify.specs.Block.{word, name}
-use Rattle.identify.specs.Drive.{someBit, saysNamed, carriesName}
+use Rattle.identify.specs.Names.{someBit, saysNamed, carriesName}
 use borrow.Author.Needs.{needs}
 use Rattle.identify.proofs.carries_name.Statement.{statement}
 use Rattle.identify.proofs.carries_name.Tie as tie

@@ -7,7 +7,7 @@ use lib.ListN.{length, getD}
 use lib.Seq.{ext-getD}
 use borrow.Author.Count.{below-more}
 use borrow.Author.Needs.{needs}
-use Rattle.identify.proofs.Drive.{equal-of, not-equal}
+use Rattle.identify.proofs.Bytes.{equal-of, not-equal}
 use Rattle.identify.proofs.same_bytes.Statement.{statement}
 use Rattle.identify.proofs.same_bytes.Tie as tie
 

@@ -5,7 +5,7 @@ use native.Mathlib.Omega.{arith}
 use lib.ListN.{length, getD}
 use borrow.Author.Count.{below-more}
 use borrow.Author.Needs.{needs}
-use Rattle.identify.proofs.Drive.{no-bit, some-bit-at}
+use Rattle.identify.proofs.Names.{no-bit, some-bit-at}
 use Rattle.identify.proofs.some_bit.Statement.{statement}
 use Rattle.identify.proofs.some_bit.Tie as tie
 

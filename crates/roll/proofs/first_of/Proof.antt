@@ -4,7 +4,7 @@ use mathlib.Core.Bool.{false}
 use Prim.Native.Nat.{ℕ, _≤_, _<_, _-_}
 use native.Mathlib.Omega.{arith}
 use borrow.Author.Count.{below-more}
-use Rattle.identify.specs.Drive.{sameDrive}
+use Rattle.drive.specs.Drive.{sameDrive}
 use Rattle.roll.specs.Roll.{blockAt}
 use borrow.Author.Needs.{needs}
 use Rattle.roll.proofs.first_of.Statement.{statement}

@@ -8,7 +8,7 @@ use native.Mathlib.Omega.{arith}
 use borrow.Author.Tests.{ne-eqb}
 use Rattle.rules.specs.Bits.{flag}
 use Rattle.checksum.specs.Checksum.{sumOf}
-use Rattle.identify.specs.Drive.{carriesName}
+use Rattle.identify.specs.Names.{carriesName}
 use Rattle.classes.proofs.Masked.{mode-within, version-within}
 use Rattle.tally.specs.declared.Census.{Census}
 use Rattle.tally.specs.Census.{census, feed}

@@ -3,7 +3,7 @@ use mathlib.Core.Path.{_≡_, refl, sym, _∙_}
 use Prim.Native.Nat.{_+_}
 use native.Mathlib.Omega.{arith}
 use lib.ListN.{length}
-use Rattle.identify.specs.Drive.{carriesName}
+use Rattle.identify.specs.Names.{carriesName}
 use Rattle.port.specs.Ports.{relativePart}
 use Rattle.page83.specs.Helpers.{driveEnd}
 use Rattle.checker.specs.Ports.{portsIn, claimedPage}

@@ -1,66 +1,19 @@
--- Laws of drives: when two texts are equal, when a block carries a name, and that being the same drive is an equivalence.
+-- Laws of drives: texts compared part by part, and that being the same drive is an equivalence.
 use mathlib.Core.Path.{_≡_, refl, sym, ap, _∙_}
 use mathlib.Core.Bool.{Bool, true, false, not, _&&_, _||_, and-eq-true-iff, and-true, or-false, true≢false, false≢true}
 use mathlib.Core.List.{List, [], _∷_, _++_, map, map-append}
 use mathlib.Core.Logic.{_⊎_, inl, inr, ⊎-elim}
-use Prim.Native.Nat.{ℕ, zero, suc, _+_, _≤_, _<_, min}
-use native.Mathlib.Nat.{le-of-suc-le-suc, not-suc-le-zero}
+use Prim.Native.Nat.{ℕ, zero, suc, _+_, _≤_, min}
 use native.Mathlib.Omega.{arith}
-use lib.Dec.{eqb, eqb·suc-zero}
-use lib.ListN.{length, getD, take, drop}
+use lib.ListN.{length, take, drop}
 use lib.Seq.{take-add, take-all}
-use borrow.Author.Tests.{eq-eqb, ne-eqb, eqb-true}
-use Rattle.identify.specs.Block.{word, serial, model, name}
 use Rattle.texts.specs.Text.{spaced}
-use Rattle.identify.specs.Drive.{someBit, saysNamed, carriesName, equal, sameDrive}
-
--- No bit is one where every byte is zero, and some bit is one where some byte is not.
-pub no-bit : (s : List ℕ) → ((k : ℕ) → k < length s → getD s k 0 ≡ 0) → someBit s ≡ false
-unfolding someBit
-no-bit [] z = refl
-no-bit (b ∷ s) z = rw (eq-eqb b 0 (z 0 (omega arith))) (no-bit s (λ k h. z (suc k) (omega arith)))
-
-pub some-bit-at : (s : List ℕ) (k : ℕ) → k < length s → (getD s k 0 ≡ 0 → ⊥) → someBit s ≡ true
-unfolding someBit
-some-bit-at [] k h n = absurd (not-suc-le-zero h)
-some-bit-at (b ∷ s) zero h n = rw (ne-eqb b 0 n)
-some-bit-at (zero ∷ s) (suc k) h n = some-bit-at s k (le-of-suc-le-suc h) n
-some-bit-at (suc b ∷ s) (suc k) h n = rw (eqb·suc-zero b)
-
--- A block that carries a name has some bit in its name words; and where word 87 says so, that is all that is left to ask.
-pub named-some-bit : (block : List ℕ) → carriesName block ≡ true → someBit (name block) ≡ true
-unfolding carriesName
-named-some-bit block e = and-eq-true-iff (saysNamed (word block 87)) (someBit (name block)) .0 e .1
-
-pub said-named : (block : List ℕ) → saysNamed (word block 87) ≡ true → carriesName block ≡ someBit (name block)
-unfolding carriesName
-said-named block s = rw s
-
--- `equal` says that two lists are one and the same.
-pub equal-self : (s : List ℕ) → equal s s ≡ true
-unfolding equal
-equal-self [] = refl
-equal-self (b ∷ s) = rw (eq-eqb b b refl) (equal-self s)
-
-pub equal-of : {s t : List ℕ} → s ≡ t → equal s t ≡ true
-equal-of {s} e = ap (equal s) (sym e) ∙ equal-self s
-
-pub equal-same : (s t : List ℕ) → equal s t ≡ true → s ≡ t
-unfolding equal
-equal-same [] [] e = refl
-equal-same [] (b ∷ t) e = absurd (false≢true e)
-equal-same (a ∷ s) [] e = absurd (false≢true e)
-equal-same (a ∷ s) (b ∷ t) e =
-    let both = and-eq-true-iff (eqb a b) (equal s t) .0 e in
-    rw (eqb-true a b (both .0), equal-same s t (both .1))
-
--- A test that cannot be true is false.
-pub never : (b : Bool) → (b ≡ true → ⊥) → b ≡ false
-never true n = absurd (n refl)
-never false n = refl
-
-pub not-equal : (s t : List ℕ) → (s ≡ t → ⊥) → equal s t ≡ false
-not-equal s t n = never (equal s t) (λ e. n (equal-same s t e))
+use Rattle.identify.specs.Block.{word, serial, model, name}
+use Rattle.identify.specs.Bytes.{equal}
+use Rattle.identify.specs.Names.{saysNamed, carriesName}
+use Rattle.identify.proofs.Bytes.{equal-of, equal-same, not-equal}
+use Rattle.identify.proofs.Names.{named-some-bit}
+use Rattle.drive.specs.Drive.{sameDrive}
 
 -- The front of a front that is as long, or all there is.
 take-within : (k i : ℕ) (s : List ℕ) → min k (length s) ≤ i → take k (take i s) ≡ take k s

@@ -3,10 +3,10 @@ use mathlib.Core.Path.{_≡_, _∙_, ap, sym}
 use Rattle.texts.specs.Text.{spaced}
 use Rattle.texts.proofs.Text.{length-spaced}
 use borrow.Author.Needs.{needs}
-use Rattle.identify.proofs.Drive.{equal-of, not-equal}
-use Rattle.identify.proofs.Number.{same-number, equal-number, bytes-spaced, spaces-set}
-use Rattle.identify.proofs.eights.same_eight.Statement.{statement}
-use Rattle.identify.proofs.eights.same_eight.Tie as tie
+use Rattle.identify.proofs.Bytes.{equal-of, not-equal}
+use Rattle.drive.proofs.Number.{same-number, equal-number, bytes-spaced, spaces-set}
+use Rattle.drive.proofs.eights.same_eight.Statement.{statement}
+use Rattle.drive.proofs.eights.same_eight.Tie as tie
 
 number-requires : tie.Need-number-requires
 number-requires c κs = search needs

@@ -5,9 +5,8 @@ ghost use mathlib.Core.List.{List};
 ghost use Prim.Native.Nat.{_≤_};
 ghost use lib.ListN.{length};
 ghost use Rattle.texts.specs.Text.{spaced};
-ghost use Rattle.identify.specs.Bytes.{Bytes};
-ghost use Rattle.identify.specs.Drive.{equal};
-ghost use Rattle.identify.specs.Helpers.{number as Helpers·number};
+ghost use Rattle.identify.specs.Bytes.{Bytes, equal};
+ghost use Rattle.drive.specs.Helpers.{number as Helpers·number};
 
 // A space in each of eight bytes.
 const SPACES: u64 = 0x2020202020202020;

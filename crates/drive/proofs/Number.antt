@@ -9,10 +9,9 @@ use lib.Dec.{eqb, eqb·suc-zero}
 use lib.ListN.{length, getD, drop, replicate, drop-of-length-le}
 use borrow.Author.Tests.{eqb-true, eqb-false}
 use Rattle.texts.specs.Text.{space, spaced}
-use Rattle.identify.specs.Bytes.{Bytes, no-more, more}
-use Rattle.identify.specs.Drive.{equal}
-use Rattle.identify.specs.Helpers.{number}
-use Rattle.identify.proofs.Drive.{equal-of, not-equal}
+use Rattle.identify.specs.Bytes.{Bytes, no-more, more, equal}
+use Rattle.identify.proofs.Bytes.{equal-of, not-equal}
+use Rattle.drive.specs.Helpers.{number}
 
 -- The bytes from a place on: the byte there, and those behind it.
 byte-of : (k : ℕ) (s : List ℕ) → number (drop k s) ≡ getD s k 0 + 0x100 * number (drop (suc k) s)

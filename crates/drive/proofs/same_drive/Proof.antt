@@ -1,11 +1,11 @@
 -- `same_drive`: whether the second block carries a name settles what is left to compare.
 use mathlib.Core.Path.{_∙_, ap, sym}
 use mathlib.Core.Bool.{not, and-true, and-false}
-use Rattle.identify.specs.Drive.{saysNamed}
-use Rattle.identify.proofs.Drive.{other-named, other-nameless, word-says}
+use Rattle.identify.specs.Names.{saysNamed}
+use Rattle.drive.proofs.Drive.{other-named, other-nameless, word-says}
 use borrow.Author.Needs.{needs}
-use Rattle.identify.proofs.same_drive.Statement.{statement}
-use Rattle.identify.proofs.same_drive.Tie as tie
+use Rattle.drive.proofs.same_drive.Statement.{statement}
+use Rattle.drive.proofs.same_drive.Tie as tie
 
 same-name-requires : tie.Need-same-name-requires
 same-name-requires c κs = search needs

@@ -3,10 +3,10 @@ use mathlib.Core.Path.{_∙_, sym}
 use native.Mathlib.Omega.{arith}
 use lib.ListN.{length-take, length-drop}
 use borrow.Author.Needs.{needs}
 use Rattle.identify.proofs.Block.{length-name}
-use Rattle.identify.proofs.Number.{equal-number}
-use Rattle.identify.proofs.same_name.Statement.{statement}
-use Rattle.identify.proofs.same_name.Tie as tie
+use Rattle.drive.proofs.Number.{equal-number}
+use Rattle.drive.proofs.same_name.Statement.{statement}
+use Rattle.drive.proofs.same_name.Tie as tie
 
 name-requires : tie.Need-name-requires
 name-requires c κs = search needs

@@ -6,9 +6,9 @@ use lib.ListN.{length, length-take, length-drop}
 use borrow.Author.Needs.{needs}
 use borrow.Author.Tests.{not-true, not-false}
 use Rattle.texts.specs.Text.{space}
-use Rattle.identify.proofs.Drive.{SameTo, differ-in-part, same-within, same-more, same-whole}
-use Rattle.identify.proofs.eights.same_text.Statement.{statement}
-use Rattle.identify.proofs.eights.same_text.Tie as tie
+use Rattle.drive.proofs.Drive.{SameTo, differ-in-part, same-within, same-more, same-whole}
+use Rattle.drive.proofs.eights.same_text.Statement.{statement}
+use Rattle.drive.proofs.eights.same_text.Tie as tie
 
 abbrev Inv-loop : tie.InvT-loop
 Inv-loop a b i₀ i = SameTo space a b i

@@ -1,9 +1,9 @@
 -- `number`: eight bytes, pair by pair.
 use native.Mathlib.Omega.{arith}
 use borrow.Author.Needs.{needs}
-use Rattle.identify.proofs.Number.{eight-bytes, all-bytes}
-use Rattle.identify.proofs.eights.number.Statement.{statement}
-use Rattle.identify.proofs.eights.number.Tie as tie
+use Rattle.drive.proofs.Number.{eight-bytes, all-bytes}
+use Rattle.drive.proofs.eights.number.Statement.{statement}
+use Rattle.drive.proofs.eights.number.Tie as tie
 
 shared-slice-read-pair : tie.Need-shared-slice-read-pair
 shared-slice-read-pair c = search needs

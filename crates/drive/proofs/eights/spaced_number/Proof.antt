@@ -2,10 +2,10 @@
 use native.Mathlib.Omega.{arith}
 use lib.Bits.{and-le-r}
 use borrow.Author.Needs.{needs}
-use Rattle.identify.specs.Helpers.{number}
-use Rattle.identify.proofs.Number.{spaced-number}
-use Rattle.identify.proofs.eights.spaced_number.Statement.{statement}
-use Rattle.identify.proofs.eights.spaced_number.Tie as tie
+use Rattle.drive.specs.Helpers.{number}
+use Rattle.drive.proofs.Number.{spaced-number}
+use Rattle.drive.proofs.eights.spaced_number.Statement.{statement}
+use Rattle.drive.proofs.eights.spaced_number.Tie as tie
 
 number-requires : tie.Need-number-requires
 number-requires c κs = search needs

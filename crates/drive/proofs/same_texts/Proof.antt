@@ -3,8 +3,8 @@ use mathlib.Core.Bool.{and-true, and-false}
 use native.Mathlib.Omega.{arith}
 use lib.ListN.{length-take, length-drop}
 use borrow.Author.Needs.{needs}
-use Rattle.identify.proofs.same_texts.Statement.{statement}
-use Rattle.identify.proofs.same_texts.Tie as tie
+use Rattle.drive.proofs.same_texts.Statement.{statement}
+use Rattle.drive.proofs.same_texts.Tie as tie
 
 serial-requires : tie.Need-serial-requires
 serial-requires c κs = search needs

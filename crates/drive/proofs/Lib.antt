@@ -1,0 +1,4 @@
+-- The laws of drives, for the crates above.
+pub mod Drive
+mod Number
+pub mod Words

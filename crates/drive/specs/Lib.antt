@@ -1,0 +1,4 @@
+-- When two blocks are the same drive.
+pub mod Drive
+pub mod Words
+pub mod Helpers
