@@ -12,7 +12,8 @@ use borrow.Author.Tests.{eq-eqb, ne-eqb, eqb-true, not-false}
 use Rattle.identify.specs.Names.{carriesName}
 use Rattle.port.specs.declared.Ports.{Ports}
 use Rattle.port.specs.Ports.{relativeChosen, sasChosen, relativePort, sasPort, relativePart, sasPart, portsPart, wrongAddress, wrongPort}
-use Rattle.page83.specs.Page83.{driveDescriptor, page83}
+use Rattle.page83_drive.specs.Descriptor.{driveDescriptor}
+use Rattle.page83.specs.Page83.{page83}
 use Rattle.port.specs.Helpers.{portsSize}
 use Rattle.port.proofs.Laws.{right-address}
 use Rattle.page83.proofs.Laws.{named-or-not, page-size}

@@ -13,7 +13,8 @@ use Rattle.identify.specs.Bytes.{equal}
 use Rattle.identify.proofs.Bytes.{equal-of, equal-same}
 use Rattle.port.specs.declared.Ports.{Ports}
 use Rattle.port.specs.Ports.{relativeChosen, isPort, wrongPort}
-use Rattle.page83.specs.Page83.{driveDescriptor, page83}
+use Rattle.page83_drive.specs.Descriptor.{driveDescriptor}
+use Rattle.page83.specs.Page83.{page83}
 use Rattle.pages.specs.Page.{standard, page00, page80, page89}
 use Rattle.packet.specs.Packet.{packetDrive}
 use Rattle.capture.specs.Capture.{Field, field, others, fields, information, holds, end}

@@ -15,11 +15,14 @@ use Rattle.agreement.specs.Agreed.{agreed}
 use Rattle.agreement.proofs.Laws.{agreed-self, agreed-whole, agreed-own, then-second}
 use Rattle.port.specs.declared.Ports.{Ports}
 use Rattle.port.specs.Ports.{relativeChosen, relativePart, portsPart, wrongAddress}
-use Rattle.page83.specs.Page83.{head, driveDescriptor, page83}
+use Rattle.page83_drive.specs.Descriptor.{head, driveDescriptor}
+use Rattle.page83.specs.Page83.{page83}
 use Rattle.port.specs.Helpers.{portsSize}
-use Rattle.page83.specs.Helpers.{driveEnd, pageSize}
+use Rattle.page83_drive.specs.Helpers.{driveEnd}
+use Rattle.page83.specs.Helpers.{pageSize}
 use Rattle.port.proofs.Laws.{length-relative}
-use Rattle.page83.proofs.Laws.{length-drive, named-or-not, page-size}
+use Rattle.page83_drive.proofs.Laws.{length-drive}
+use Rattle.page83.proofs.Laws.{named-or-not, page-size}
 use Rattle.pages.specs.Page.{informationHead, informationCode, page89, blockOrZeros}
 use Rattle.pages.proofs.Laws.{length-page89}
 use Rattle.checker.specs.Ports.{portsIn, addressIn, claimedPorts, claimedAddress, claimedPage}

@@ -6,7 +6,8 @@ use lib.Dec.{eqb}
 use lib.ListN.{length, getD, take, drop, replicate}
 use Rattle.port.specs.declared.Ports.{Ports}
 use Rattle.port.specs.Ports.{relativePart}
-use Rattle.page83.specs.Page83.{driveDescriptor, page83}
+use Rattle.page83_drive.specs.Descriptor.{driveDescriptor}
+use Rattle.page83.specs.Page83.{page83}
 
 -- Byte 3 tells the size of all descriptors, and so which ports follow a drive's descriptor of this size; where it tells of none, none.
 abbrev pub chosenBy : ℕ → ℕ → ℕ

@@ -10,9 +10,10 @@ ghost use lib.ListN.{length, drop};
 ghost use Rattle.identify.specs.Block.{serial, model, name};
 ghost use Rattle.identify.specs.Names.{carriesName};
 ghost use Rattle.texts.specs.Text.{turned, spaced};
-ghost use Rattle.page83.specs.Helpers.{driveEnd};
+ghost use Rattle.page83_drive.specs.Helpers.{driveEnd};
 ghost use Rattle.port.specs.Ports.{relativePart, sasPart, portsPart};
-ghost use Rattle.page83.specs.Page83.{nameDescriptor, textDescriptor, driveDescriptor, page83 as Page83·page83};
+ghost use Rattle.page83_drive.specs.Descriptor.{nameDescriptor, textDescriptor, driveDescriptor};
+ghost use Rattle.page83.specs.Page83.{page83 as Page83·page83};
 ghost use Rattle.agreement.specs.Agreed.{agreed};
 ghost use Rattle.checker.specs.Ports.{chosenBy, portBy, portsIn, addressIn, claimedPage};
 ghost use Rattle.checker.specs.Helpers.{beside};
@@ -70,7 +71,7 @@ fn name_place(bytes: &[u8], block: &[u8]) -> usize
     requires { ⌜ (4 ≤ length (now bytes)) × (length (now block) ≡ 512) ⌝ }
     ensures { λ r. ⌜ r ≡ 4 + agreed (drop 4 (now (bytes .entry))) (nameDescriptor (turned (name (now (block .entry))))) ⌝ }
 {
-    let at = agreement::bytes(bytes, 4, &page83::NAME_HEAD);
+    let at = agreement::bytes(bytes, 4, &page83_drive::NAME_HEAD);
     if at < 8 {
         return at;
     }
@@ -82,7 +83,7 @@ fn texts_place(bytes: &[u8], block: &[u8]) -> usize
     requires { ⌜ (4 ≤ length (now bytes)) × (length (now block) ≡ 512) ⌝ }
     ensures { λ r. ⌜ r ≡ 4 + agreed (drop 4 (now (bytes .entry))) (textDescriptor (spaced (turned (model (now (block .entry))))) (spaced (turned (serial (now (block .entry)))))) ⌝ }
 {
-    let at = agreement::bytes(bytes, 4, &page83::TEXT_HEAD);
+    let at = agreement::bytes(bytes, 4, &page83_drive::TEXT_HEAD);
     if at < 16 {
         return at;
     }

@@ -18,7 +18,7 @@ use Rattle.port.specs.declared.Ports.{Ports}
 use Rattle.port.specs.Ports.{relativeChosen, sasChosen, wrongAddress, wrongPort}
 use Rattle.page83.specs.Page83.{page83}
 use Rattle.port.specs.Helpers.{portsSize}
-use Rattle.page83.specs.Helpers.{driveEnd}
+use Rattle.page83_drive.specs.Helpers.{driveEnd}
 use Rattle.page83.proofs.Laws.{page-size}
 use Rattle.pages.specs.Page.{standard, page00, page80, page89, informationHead, informationCode, blockOrZeros}
 use Rattle.pages.proofs.Laws.{length-standard, length-page80, length-page89}

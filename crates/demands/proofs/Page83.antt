@@ -27,13 +27,14 @@ use Rattle.identify.proofs.Names.{named-some-bit, said-named}
 use Rattle.drive.proofs.Drive.{OneName, OneText, same-drive-means, same-drive-when}
 use Rattle.port.specs.declared.Ports.{Ports}
 use Rattle.port.specs.Ports.{portsPart, wrongAddress, wrongPort}
+use Rattle.page83_drive.specs.Descriptor.{head, nameDescriptor, textDescriptor, driveDescriptor}
 use Rattle.page83.specs.Page83 as Page83
-use Rattle.page83.specs.Page83.{head, nameDescriptor, textDescriptor, driveDescriptor, page83, checks, refusalOf, Outcome, write}
+use Rattle.page83.specs.Page83.{page83, checks, refusalOf, Outcome, write}
 use Rattle.page83_reader.specs.declared.Name.{Name}
 use Rattle.page83_reader.specs.Reader as Reader
 use Rattle.page83_reader.specs.Reader.{noZero, headed, namesDrive, tellsTexts, tellsPorts, portsIn, addressIn, inSixty, told, read}
 use Rattle.room.proofs.Laws.{front}
-use Rattle.page83.proofs.Laws.{named-drive, unnamed-drive, length-named, length-unnamed, length-model-text, length-serial-text}
+use Rattle.page83_drive.proofs.Laws.{named-drive, unnamed-drive, length-named, length-unnamed, length-model-text, length-serial-text}
 use Rattle.demands.specs.Promises.{left, nameOf, ReadsBack, AcceptedIsWritten, Writable, WriterAccepts, firstDescriptor, SamePorts, TellsApart, PagesOfTheWriter}
 use Rattle.demands.proofs.Refusals.{not-refused}
 use Rattle.demands.proofs.Ports.{starts-with, tells-back, ports-back, address-back, address-right, port-right, ports-again, same-ports-same-part, same-part-same-ports}

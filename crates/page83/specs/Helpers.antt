@@ -1,6 +1,5 @@
 -- No rules: names for contracts of functions below the entries.
 use mathlib.Core.Path.{_≡_}
-use mathlib.Core.Bool.{Bool, cond}
 use mathlib.Core.List.{List, _++_}
 use Prim.Native.Nat.{ℕ, _+_, _≤_}
 use lib.ListN.{length}
@@ -9,11 +8,8 @@ use Rattle.identify.specs.Names.{carriesName}
 use Rattle.port.specs.declared.Ports.{Ports}
 use Rattle.port.specs.Ports.{portsPart}
 use Rattle.port.specs.Helpers.{portsSize}
-use Rattle.page83.specs.Page83.{head}
-
--- Where the drive's descriptor ends, by whether it is a name.
-abbrev pub driveEnd : Bool → ℕ
-driveEnd named = cond named 16 76
+use Rattle.page83_drive.specs.Descriptor.{head}
+use Rattle.page83_drive.specs.Helpers.{driveEnd}
 
 -- The page's size, where a chosen address has its 8 bytes.
 abbrev pub pageSize : List ℕ → Ports → ℕ

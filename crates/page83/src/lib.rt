@@ -1,116 +1,24 @@
 // Page 83h: the page that names a drive, for whoever has a block and room, with the target ports that are chosen behind the name. The
-// rules stand in specs/Page83, those of the ports in `port`; `page83_reader` reads the page.
+// rules stand in specs/Page83, those of its head and of the drive's descriptor in `page83_drive`, those of the ports in `port`;
+// `page83_reader` reads the page.
 use port::Ports;
 ghost use mathlib.Core.Path.{_≡_};
 ghost use mathlib.Core.Bool.{Bool, true, false};
-ghost use mathlib.Core.List.{List, _++_};
+ghost use mathlib.Core.List.{List};
 ghost use Prim.Native.Nat.{_+_, _≤_};
 ghost use lib.ListN.{length};
 ghost use Rattle.room.specs.Room.{Wrote};
-ghost use Rattle.identify.specs.Block.{serial, model, name};
 ghost use Rattle.identify.specs.Names.{carriesName};
-ghost use Rattle.texts.specs.Text.{turned, spaced};
 ghost use Rattle.port.specs.Ports.{portsPart, wrongAddress};
-ghost use Rattle.page83.specs.Page83.{page83, head, nameDescriptor, textDescriptor, outcome, write as Page83·write};
+ghost use Rattle.page83.specs.Page83.{page83, outcome, write as Page83·write};
 ghost use Rattle.port.specs.Helpers.{portsSize};
 ghost use Rattle.page83.specs.Helpers.{pageSize, Grows, Whole};
-
-// What the descriptor of a name starts with: CODE SET binary, DESIGNATOR TYPE NAA, DESIGNATOR LENGTH.
-pub const NAME_HEAD: [u8; 4] = [0x01, 0x03, 0x00, 0x08];
-
-// What that of texts starts with: CODE SET ASCII, DESIGNATOR TYPE T10 vendor identification, DESIGNATOR LENGTH, and the vendor.
-pub const TEXT_HEAD: [u8; 12] = [
-    0x02,
-    0x01,
-    0x00,
-    0x44,
-    b'A',
-    b'T',
-    b'A',
-    b' ',
-    b' ',
-    b' ',
-    b' ',
-    b' ',
-];
 
 // What comes back of the writer: the refusal's number or 0, and how many bytes were written.
 #[repr(C)]
 pub struct Written {
     pub number: u8,
     pub count: usize,
-}
-
-// Head and descriptor of a drive that carries a name, in room that holds them; the head tells the bytes behind it.
-fn store_name(room: &mut [u8], block: &[u8], behind: u8)
-    requires { ⌜ (length (now block) ≡ 512) × (16 ≤ length (now room)) ⌝ }
-    ensures { λ _. ⌜ Wrote (now (room .entry)) 0 (head behind ++ nameDescriptor (turned (name (now (block .entry))))) (now (room .exit)) ⌝ }
-{
-    room::store_four(room, 0, 0x00, 0x83, 0x00, behind);
-    room::store(room, 4, &NAME_HEAD);
-    texts::store_turned(room, 8, identify::name(block));
-}
-
-// As much of it as fits.
-fn put_name(room: &mut [u8], block: &[u8], behind: u8)
-    requires { ⌜ length (now block) ≡ 512 ⌝ }
-    ensures { λ _. ⌜ Wrote (now (room .entry)) 0 (head behind ++ nameDescriptor (turned (name (now (block .entry))))) (now (room .exit)) ⌝ }
-{
-    if 16 <= room.len() {
-        store_name(room, block, behind);
-        return;
-    }
-    let head = [0x00u8, 0x83u8, 0x00u8, behind];
-    room::put_short(room, 0, &head);
-    room::put_short(room, 4, &NAME_HEAD);
-    texts::put_turned(room, 8, identify::name(block));
-}
-
-// The model of a drive that carries no name, turned and spaced, in room that holds it. It is written in pieces of known places, which
-// the compiler moves sixteen bytes at a time.
-fn store_model(room: &mut [u8], model: &[u8])
-    requires { ⌜ (length (now model) ≡ 40) × (56 ≤ length (now room)) ⌝ }
-    ensures { λ _. ⌜ Wrote (now (room .entry)) 16 (spaced (turned (now (model .entry)))) (now (room .exit)) ⌝ }
-{
-    texts::store_line(room, 16, model, 0);
-    texts::store_line(room, 32, model, 16);
-    texts::store_words(room, 48, model, 32, true);
-}
-
-// Its serial number, behind the model.
-fn store_serial(room: &mut [u8], serial: &[u8])
-    requires { ⌜ (length (now serial) ≡ 20) × (76 ≤ length (now room)) ⌝ }
-    ensures { λ _. ⌜ Wrote (now (room .entry)) 56 (spaced (turned (now (serial .entry)))) (now (room .exit)) ⌝ }
-{
-    texts::store_line(room, 56, serial, 0);
-    texts::store_last(room, 72, serial, 16);
-}
-
-// Head and descriptor of a drive that carries none, in room that holds them.
-fn store_texts(room: &mut [u8], block: &[u8], behind: u8)
-    requires { ⌜ (length (now block) ≡ 512) × (76 ≤ length (now room)) ⌝ }
-    ensures { λ _. ⌜ Wrote (now (room .entry)) 0 (head behind ++ textDescriptor (spaced (turned (model (now (block .entry))))) (spaced (turned (serial (now (block .entry)))))) (now (room .exit)) ⌝ }
-{
-    room::store_four(room, 0, 0x00, 0x83, 0x00, behind);
-    room::store(room, 4, &TEXT_HEAD);
-    store_model(room, identify::model(block));
-    store_serial(room, identify::serial(block));
-}
-
-// As much of it as fits.
-fn put_texts(room: &mut [u8], block: &[u8], behind: u8)
-    requires { ⌜ length (now block) ≡ 512 ⌝ }
-    ensures { λ _. ⌜ Wrote (now (room .entry)) 0 (head behind ++ textDescriptor (spaced (turned (model (now (block .entry))))) (spaced (turned (serial (now (block .entry)))))) (now (room .exit)) ⌝ }
-{
-    if 76 <= room.len() {
-        store_texts(room, block, behind);
-        return;
-    }
-    let head = [0x00u8, 0x83u8, 0x00u8, behind];
-    room::put_short(room, 0, &head);
-    room::put_short(room, 4, &TEXT_HEAD);
-    texts::put_each(room, 16, identify::model(block), true);
-    texts::put_each(room, 56, identify::serial(block), true);
 }
 
 // Writes the ports that are chosen behind a page without them, whose end is told, and into its head how many bytes are behind it now.
@@ -141,11 +49,11 @@ pub fn put(room: &mut [u8], block: &[u8], ports: Ports, address: &[u8])
     ensures { λ _. ⌜ Wrote (now (room .entry)) 0 (page83 (now (block .entry)) ports (now (address .entry))) (now (room .exit)) ⌝ }
 {
     if identify::carries_name(block) {
-        put_name(room, block, 12 + port::size(ports));
+        page83_drive::put_name(room, block, 12 + port::size(ports));
         put_ports(room, 16, ports, address);
         return;
     }
-    put_texts(room, block, 72 + port::size(ports));
+    page83_drive::put_texts(room, block, 72 + port::size(ports));
     put_ports(room, 76, ports, address);
 }
 
@@ -171,7 +79,7 @@ fn put_whole_name(room: &mut [u8], block: &[u8], ports: Ports, address: &[u8], m
     if rules::lesser(most, room.len()) < size {
         return 0;
     }
-    store_name(room, block, 12);
+    page83_drive::store_name(room, block, 12);
     store_ports(room, 16, 12 + grown, ports, address);
     size
 }
@@ -192,7 +100,7 @@ fn put_whole_texts(
     if rules::lesser(most, room.len()) < size {
         return 0;
     }
-    store_texts(room, block, 72);
+    page83_drive::store_texts(room, block, 72);
     store_ports(room, 76, 72 + grown, ports, address);
     size
 }
@@ -237,7 +145,7 @@ pub fn write(block: &[u8], ports: Ports, address: &[u8], room: &mut [u8]) -> Wri
         if room.len() < size {
             return wrote(8, 0);
         }
-        store_name(room, block, 12);
+        page83_drive::store_name(room, block, 12);
         store_ports(room, 16, 12 + grown, ports, address);
         return wrote(0, size);
     }
@@ -245,7 +153,7 @@ pub fn write(block: &[u8], ports: Ports, address: &[u8], room: &mut [u8]) -> Wri
     if room.len() < size {
         return wrote(8, 0);
     }
-    store_texts(room, block, 72);
+    page83_drive::store_texts(room, block, 72);
     store_ports(room, 76, 72 + grown, ports, address);
     wrote(0, size)
 }

@@ -12,7 +12,7 @@ use lib.Seq.{take-all, getD-take}
 use borrow.Author.Tests.{eq-eqb, ne-eqb}
 use Rattle.identify.specs.Bytes.{equal}
 use Rattle.identify.proofs.Bytes.{not-equal}
-use Rattle.page83.specs.Page83.{head}
+use Rattle.page83_drive.specs.Descriptor.{head}
 use Rattle.page83_reader.specs.Reader.{noZero, headed, twoBytes, relativeIn, tellsSas, sasOrNothing}
 
 -- No byte is zero where none is at any place, and one is where one is at some place.

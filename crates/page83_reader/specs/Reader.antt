@@ -10,7 +10,7 @@ use Rattle.identify.specs.Bytes.{equal}
 use Rattle.identify.specs.Names.{someBit}
 use Rattle.port.specs.declared.Ports.{Ports}
 use Rattle.port.specs.Ports.{relativeHead, sasPort, isPort}
-use Rattle.page83.specs.Page83.{head, nameDescriptor, textDescriptor}
+use Rattle.page83_drive.specs.Descriptor.{head, nameDescriptor, textDescriptor}
 use Rattle.page83_reader.specs.declared.Name.{Name}
 
 -- No byte is zero.

@@ -1,6 +1,6 @@
 // Page 83h reader: reads a page 83h, and gives back the name and the ports that went in. The rule stands in specs/Reader.
-use page83::NAME_HEAD;
-use page83::TEXT_HEAD;
+use page83_drive::NAME_HEAD;
+use page83_drive::TEXT_HEAD;
 use port::Ports;
 use port::RELATIVE_HEAD;
 use port::SAS_HEAD;

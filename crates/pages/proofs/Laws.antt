@@ -9,7 +9,7 @@ use Rattle.identify.specs.Block.{serial, firmware, model}
 use Rattle.texts.specs.Text.{turned, spaced, revision}
 use Rattle.identify.proofs.Block.{length-serial, length-firmware, length-model}
 use Rattle.texts.proofs.Text.{length-turned, length-spaced, length-revision}
-use Rattle.page83.specs.Page83.{ata}
+use Rattle.page83_drive.specs.Descriptor.{ata}
 use Rattle.pages.specs.Page.{standard, page00, page80, page89, typeByte, commandCode, blockOrZeros}
 
 -- Of a whole block.

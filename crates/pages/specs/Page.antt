@@ -6,7 +6,7 @@ use lib.Dec.{eqb}
 use lib.ListN.{length, take, replicate}
 use Rattle.identify.specs.Block.{word, serial, firmware, model}
 use Rattle.texts.specs.Text.{turned, spaced, revision}
-use Rattle.page83.specs.Page83.{ata}
+use Rattle.page83_drive.specs.Descriptor.{ata}
 use Rattle.rules.specs.Bits.{bit, bits}
 
 -- Standard data, 36 bytes (RULES 6.1): the RMB bit from word 0 bit 7; the vendor; 16 bytes of the turned model, in which zero

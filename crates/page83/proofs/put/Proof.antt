@@ -1,7 +1,8 @@
 -- `put`: by whether the block carries a name, and the ports beside it.
 use mathlib.Core.Path.{_∙_, sym}
 use Rattle.room.proofs.Laws.{beside}
-use Rattle.page83.proofs.Laws.{named-page, unnamed-page, named-end, unnamed-end}
+use Rattle.page83_drive.proofs.Laws.{named-end, unnamed-end}
+use Rattle.page83.proofs.Laws.{named-page, unnamed-page}
 use borrow.Author.Needs.{needs}
 use Rattle.page83.proofs.put.Statement.{statement}
 use Rattle.page83.proofs.put.Tie as tie

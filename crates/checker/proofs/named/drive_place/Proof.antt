@@ -1,6 +1,6 @@
 -- `drive_place`: by whether there is a name.
 use mathlib.Core.Path.{_∙_}
-use Rattle.page83.proofs.Laws.{named-drive, unnamed-drive}
+use Rattle.page83_drive.proofs.Laws.{named-drive, unnamed-drive}
 use borrow.Author.Needs.{needs}
 use Rattle.checker.proofs.named.drive_place.Statement.{statement}
 use Rattle.checker.proofs.named.drive_place.Tie as tie

@@ -5,7 +5,7 @@ use native.Mathlib.Omega.{arith}
 use lib.ListN.{length}
 use Rattle.identify.specs.Names.{carriesName}
 use Rattle.port.specs.Ports.{relativePart}
-use Rattle.page83.specs.Helpers.{driveEnd}
+use Rattle.page83_drive.specs.Helpers.{driveEnd}
 use Rattle.checker.specs.Ports.{portsIn, claimedPage}
 use Rattle.checker.proofs.Laws.{held-is, drive-ends, claimed-page, told-size}
 use borrow.Author.Needs.{needs}

@@ -5,10 +5,10 @@ use Prim.Native.Nat.{_+_, _-_}
 use native.Mathlib.Omega.{arith}
 use lib.ListN.{length}
 use Rattle.port.specs.Ports.{relativePart, portsPart}
-use Rattle.page83.specs.Page83.{head, driveDescriptor}
+use Rattle.page83_drive.specs.Descriptor.{head, driveDescriptor}
 use Rattle.port.specs.Helpers.{portsSize}
-use Rattle.page83.specs.Helpers.{driveEnd}
-use Rattle.page83.proofs.Laws.{length-drive}
+use Rattle.page83_drive.specs.Helpers.{driveEnd}
+use Rattle.page83_drive.proofs.Laws.{length-drive}
 use Rattle.agreement.proofs.Laws.{reaches-within, differs-first, then-second}
 use Rattle.checker.specs.Ports.{addressIn}
 use Rattle.checker.proofs.Laws.{drive-ends, told-page}

@@ -5,8 +5,8 @@ use Prim.Native.Nat.{ℕ}
 use native.Mathlib.Omega.{arith}
 use Rattle.identify.specs.Block.{model, serial}
 use Rattle.texts.specs.Text.{turned, spaced}
-use Rattle.page83.specs.Page83.{ata}
-use Rattle.page83.proofs.Laws.{length-model-text}
+use Rattle.page83_drive.specs.Descriptor.{ata}
+use Rattle.page83_drive.proofs.Laws.{length-model-text}
 use Rattle.agreement.proofs.Laws.{reaches-within, differs-first, then-second}
 use borrow.Author.Needs.{needs}
 use Rattle.checker.proofs.named.texts_place.Statement.{statement}

@@ -4,8 +4,8 @@ use Rattle.room.proofs.Laws.{begin, done}
 use Rattle.texts.specs.Text.{turned, space, spaced}
 use Rattle.texts.proofs.Text.{length-text, next-piece}
 use borrow.Author.Needs.{needs}
-use Rattle.page83.proofs.store_model.Statement.{statement}
-use Rattle.page83.proofs.store_model.Tie as tie
+use Rattle.page83_drive.proofs.store_model.Statement.{statement}
+use Rattle.page83_drive.proofs.store_model.Tie as tie
 
 store-line-requires : tie.Need-store-line-requires
 store-line-requires c κs = search needs

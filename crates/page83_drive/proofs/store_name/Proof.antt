@@ -4,8 +4,8 @@ use native.Mathlib.Omega.{arith}
 use Rattle.room.proofs.Laws.{beside}
 use Rattle.identify.proofs.Block.{length-name}
 use borrow.Author.Needs.{needs}
-use Rattle.page83.proofs.store_name.Statement.{statement}
-use Rattle.page83.proofs.store_name.Tie as tie
+use Rattle.page83_drive.proofs.store_name.Statement.{statement}
+use Rattle.page83_drive.proofs.store_name.Tie as tie
 
 store-four-requires : tie.Need-store-four-requires
 store-four-requires c κs = search needs

@@ -4,10 +4,10 @@ use native.Mathlib.Omega.{arith}
 use Rattle.room.proofs.Laws.{beside}
 use Rattle.identify.specs.Block.{model}
 use Rattle.texts.specs.Text.{turned, spaced}
-use Rattle.page83.proofs.Laws.{length-model-text}
+use Rattle.page83_drive.proofs.Laws.{length-model-text}
 use borrow.Author.Needs.{needs}
-use Rattle.page83.proofs.put_texts.Statement.{statement}
-use Rattle.page83.proofs.put_texts.Tie as tie
+use Rattle.page83_drive.proofs.put_texts.Statement.{statement}
+use Rattle.page83_drive.proofs.put_texts.Tie as tie
 
 store-texts-requires : tie.Need-store-texts-requires
 store-texts-requires c κs = search needs

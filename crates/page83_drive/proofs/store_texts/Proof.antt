@@ -5,10 +5,10 @@ use Rattle.room.proofs.Laws.{beside}
 use Rattle.identify.specs.Block.{model}
 use Rattle.identify.proofs.Block.{length-serial, length-model}
 use Rattle.texts.specs.Text.{turned, spaced}
-use Rattle.page83.proofs.Laws.{length-model-text}
+use Rattle.page83_drive.proofs.Laws.{length-model-text}
 use borrow.Author.Needs.{needs}
-use Rattle.page83.proofs.store_texts.Statement.{statement}
-use Rattle.page83.proofs.store_texts.Tie as tie
+use Rattle.page83_drive.proofs.store_texts.Statement.{statement}
+use Rattle.page83_drive.proofs.store_texts.Tie as tie
 
 store-four-requires : tie.Need-store-four-requires
 store-four-requires c κs = search needs

@@ -5,8 +5,8 @@ use Rattle.room.proofs.Laws.{begin}
 use Rattle.texts.specs.Text.{turned, spaced}
 use Rattle.texts.proofs.Text.{next-piece}
 use borrow.Author.Needs.{needs}
-use Rattle.page83.proofs.store_serial.Statement.{statement}
-use Rattle.page83.proofs.store_serial.Tie as tie
+use Rattle.page83_drive.proofs.store_serial.Statement.{statement}
+use Rattle.page83_drive.proofs.store_serial.Tie as tie
 
 store-line-requires : tie.Need-store-line-requires
 store-line-requires c κs = search needs

@@ -4,8 +4,8 @@ use native.Mathlib.Omega.{arith}
 use Rattle.room.proofs.Laws.{beside}
 use Rattle.identify.proofs.Block.{length-name}
 use borrow.Author.Needs.{needs}
-use Rattle.page83.proofs.put_name.Statement.{statement}
-use Rattle.page83.proofs.put_name.Tie as tie
+use Rattle.page83_drive.proofs.put_name.Statement.{statement}
+use Rattle.page83_drive.proofs.put_name.Tie as tie
 
 store-name-requires : tie.Need-store-name-requires
 store-name-requires c κs = search needs
