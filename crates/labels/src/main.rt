@@ -48,7 +48,7 @@ fn say_field(text: &[u8]) -> bool
     requires { ⌜ (length (now text) ≤ 40) × (length (now text) % 4 ≡ 0) ⌝ }
 {
     let mut shown = [0u8; 40];
-    texts::put_spaced(&mut shown, 0, text);
+    text_writers::put_spaced(&mut shown, 0, text);
     say(b" [") && say_text(&shown[..text.len()]) && say(b"]")
 }
 

@@ -35,7 +35,7 @@ pub fn store_name(room: &mut [u8], block: &[u8], behind: u8)
 {
     room::store_four(room, 0, 0x00, 0x83, 0x00, behind);
     room::store(room, 4, &NAME_HEAD);
-    texts::store_turned(room, 8, identify::name(block));
+    text_writers::store_turned(room, 8, identify::name(block));
 }
 
 // As much of it as fits.
@@ -50,7 +50,7 @@ pub fn put_name(room: &mut [u8], block: &[u8], behind: u8)
     let head = [0x00u8, 0x83u8, 0x00u8, behind];
     room::put_short(room, 0, &head);
     room::put_short(room, 4, &NAME_HEAD);
-    texts::put_turned(room, 8, identify::name(block));
+    text_writers::put_turned(room, 8, identify::name(block));
 }
 
 // The model of a drive that carries no name, turned and spaced, in room that holds it. It is written in pieces of known places, which
@@ -59,9 +59,9 @@ fn store_model(room: &mut [u8], model: &[u8])
     requires { ⌜ (length (now model) ≡ 40) × (56 ≤ length (now room)) ⌝ }
     ensures { λ _. ⌜ Wrote (now (room .entry)) 16 (spaced (turned (now (model .entry)))) (now (room .exit)) ⌝ }
 {
-    texts::store_line(room, 16, model, 0);
-    texts::store_line(room, 32, model, 16);
-    texts::store_words(room, 48, model, 32, true);
+    text_writers::store_line(room, 16, model, 0);
+    text_writers::store_line(room, 32, model, 16);
+    text_writers::store_words(room, 48, model, 32, true);
 }
 
 // Its serial number, behind the model.
@@ -69,8 +69,8 @@ fn store_serial(room: &mut [u8], serial: &[u8])
     requires { ⌜ (length (now serial) ≡ 20) × (76 ≤ length (now room)) ⌝ }
     ensures { λ _. ⌜ Wrote (now (room .entry)) 56 (spaced (turned (now (serial .entry)))) (now (room .exit)) ⌝ }
 {
-    texts::store_line(room, 56, serial, 0);
-    texts::store_last(room, 72, serial, 16);
+    text_writers::store_line(room, 56, serial, 0);
+    text_writers::store_last(room, 72, serial, 16);
 }
 
 // Head and descriptor of a drive that carries none, in room that holds them.

@@ -61,7 +61,7 @@ pub fn put_standard(room: &mut [u8], block: &[u8])
     let head = standard_head(block);
     room::put_short(room, 0, &head);
     // PRODUCT IDENTIFICATION
-    texts::put_turned(room, 16, product(block));
+    text_writers::put_turned(room, 16, product(block));
     // PRODUCT REVISION LEVEL
     texts::put_revision(room, 32, identify::firmware(block));
 }
@@ -88,7 +88,7 @@ pub fn put_serial(room: &mut [u8], block: &[u8])
     ensures { λ _. ⌜ Wrote (now (room .entry)) 0 (page80 (now (block .entry))) (now (room .exit)) ⌝ }
 {
     room::put_short(room, 0, &SERIAL_HEAD);
-    texts::put_spaced(room, 4, identify::serial(block));
+    text_writers::put_spaced(room, 4, identify::serial(block));
 }
 
 pub const SERIAL_SIZE: usize = 24;

@@ -2,7 +2,8 @@
 use native.Mathlib.Omega.{arith}
 use Rattle.room.proofs.Laws.{begin, done}
 use Rattle.texts.specs.Text.{turned, space, spaced}
-use Rattle.texts.proofs.Text.{length-text, next-piece}
+use Rattle.texts.proofs.Text.{length-text}
+use Rattle.text_writers.proofs.Laws.{next-piece}
 use borrow.Author.Needs.{needs}
 use Rattle.page83_drive.proofs.store_model.Statement.{statement}
 use Rattle.page83_drive.proofs.store_model.Tie as tie

@@ -3,7 +3,7 @@ use mathlib.Core.Path.{_∙_}
 use native.Mathlib.Omega.{arith}
 use Rattle.room.proofs.Laws.{begin}
 use Rattle.texts.specs.Text.{turned, spaced}
-use Rattle.texts.proofs.Text.{next-piece}
+use Rattle.text_writers.proofs.Laws.{next-piece}
 use borrow.Author.Needs.{needs}
 use Rattle.page83_drive.proofs.store_serial.Statement.{statement}
 use Rattle.page83_drive.proofs.store_serial.Tie as tie

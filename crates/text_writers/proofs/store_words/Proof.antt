@@ -1,11 +1,11 @@
 -- `store_words`: the first two words, and the other two beside them.
 use mathlib.Core.Path.{refl}
 use Rattle.room.proofs.Laws.{beside}
 use Rattle.texts.specs.Helpers.{shown}
-use Rattle.texts.proofs.Text.{four-words}
+use Rattle.text_writers.proofs.Laws.{four-words}
 use borrow.Author.Needs.{needs}
-use Rattle.texts.proofs.store_words.Statement.{statement}
-use Rattle.texts.proofs.store_words.Tie as tie
+use Rattle.text_writers.proofs.store_words.Statement.{statement}
+use Rattle.text_writers.proofs.store_words.Tie as tie
 
 words-requires : tie.Need-words-requires
 words-requires c κs = search needs

@@ -1,10 +1,10 @@
 -- `put_turned`: whole where it fits, else byte by byte.
 use mathlib.Core.Path.{_∙_, sym}
 use borrow.Author.Tests.{leb-true}
 use Rattle.texts.proofs.Text.{shown-as-it-is}
 use borrow.Author.Needs.{needs}
-use Rattle.texts.proofs.put_turned.Statement.{statement}
-use Rattle.texts.proofs.put_turned.Tie as tie
+use Rattle.text_writers.proofs.put_turned.Statement.{statement}
+use Rattle.text_writers.proofs.put_turned.Tie as tie
 
 fits-requires : tie.Need-fits-requires
 fits-requires c κs = search needs

@@ -4,11 +4,12 @@ use Prim.Native.Nat.{_-_, _%_, _≤_}
 use native.Mathlib.Omega.{arith}
 use lib.ListN.{length}
 use Rattle.room.proofs.Laws.{Writing, begin, done}
 use Rattle.texts.specs.Text.{turned, space, spaced}
-use Rattle.texts.proofs.Text.{length-text, next-piece}
+use Rattle.texts.proofs.Text.{length-text}
+use Rattle.text_writers.proofs.Laws.{next-piece}
 use borrow.Author.Needs.{needs}
-use Rattle.texts.proofs.store_spaced.Statement.{statement}
-use Rattle.texts.proofs.store_spaced.Tie as tie
+use Rattle.text_writers.proofs.store_spaced.Statement.{statement}
+use Rattle.text_writers.proofs.store_spaced.Tie as tie
 
 abbrev Inv-loop : tie.InvT-loop
 Inv-loop room₀ at text i₀ room i = Writing room₀ at (spaced (turned text)) room i × ((i % 8 ≡ 0) × (i ≤ length text))

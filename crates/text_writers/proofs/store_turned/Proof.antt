@@ -6,11 +6,11 @@ use native.Mathlib.Omega.{arith}
 use lib.ListN.{length, take, drop, take-append-drop, length-drop}
 use lib.Seq.{drop-drop, length-take-le}
 use Rattle.room.proofs.Laws.{Writing, begin, turn, done}
 use Rattle.texts.specs.Text.{turned}
 use Rattle.texts.proofs.Text.{length-turned, shown-as-it-is}
 use borrow.Author.Needs.{needs}
-use Rattle.texts.proofs.store_turned.Statement.{statement}
-use Rattle.texts.proofs.store_turned.Tie as tie
+use Rattle.text_writers.proofs.store_turned.Statement.{statement}
+use Rattle.text_writers.proofs.store_turned.Tie as tie
 
 abbrev Inv-loop : tie.InvT-loop
 Inv-loop room₀ at text i₀ room i = Writing room₀ at (turned text) room i × (i % 8 ≡ 0)

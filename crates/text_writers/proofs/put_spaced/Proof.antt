@@ -2,8 +2,8 @@
 use mathlib.Core.Path.{_∙_, sym}
 use borrow.Author.Tests.{leb-true}
 use borrow.Author.Needs.{needs}
-use Rattle.texts.proofs.put_spaced.Statement.{statement}
-use Rattle.texts.proofs.put_spaced.Tie as tie
+use Rattle.text_writers.proofs.put_spaced.Statement.{statement}
+use Rattle.text_writers.proofs.put_spaced.Tie as tie
 
 fits-requires : tie.Need-fits-requires
 fits-requires c κs = search needs

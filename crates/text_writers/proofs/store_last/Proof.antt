@@ -4,11 +4,12 @@ use native.Mathlib.Omega.{arith}
 use mathlib.Core.List.{[]}
 use Prim.Native.Nat.{_+_}
 use lib.ListN.{drop, drop-of-length-le}
 use Rattle.texts.specs.Text.{turned, space, spaced}
-use Rattle.texts.proofs.Text.{length-text, two-words}
+use Rattle.texts.proofs.Text.{length-text}
+use Rattle.text_writers.proofs.Laws.{two-words}
 use borrow.Author.Needs.{needs}
-use Rattle.texts.proofs.store_last.Statement.{statement}
-use Rattle.texts.proofs.store_last.Tie as tie
+use Rattle.text_writers.proofs.store_last.Statement.{statement}
+use Rattle.text_writers.proofs.store_last.Tie as tie
 
 add-shown : tie.Need-add-shown
 add-shown c = search needs

@@ -1,9 +1,9 @@
 -- `words`: byte by byte.
 use Rattle.texts.specs.Helpers.{shown}
-use Rattle.texts.proofs.Text.{four-words}
+use Rattle.text_writers.proofs.Laws.{four-words}
 use borrow.Author.Needs.{needs}
-use Rattle.texts.proofs.words.Statement.{statement}
-use Rattle.texts.proofs.words.Tie as tie
+use Rattle.text_writers.proofs.words.Statement.{statement}
+use Rattle.text_writers.proofs.words.Tie as tie
 
 add-shown : tie.Need-add-shown
 add-shown c = search needs

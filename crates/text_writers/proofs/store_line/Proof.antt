@@ -3,11 +3,11 @@ use mathlib.Core.Path.{refl}
 use Prim.Native.Nat.{_+_}
 use native.Mathlib.Omega.{arith}
 use Rattle.room.proofs.Laws.{beside}
 use Rattle.texts.specs.Text.{space}
-use Rattle.texts.proofs.Text.{four-words}
+use Rattle.text_writers.proofs.Laws.{four-words}
 use borrow.Author.Needs.{needs}
-use Rattle.texts.proofs.store_line.Statement.{statement}
-use Rattle.texts.proofs.store_line.Tie as tie
+use Rattle.text_writers.proofs.store_line.Statement.{statement}
+use Rattle.text_writers.proofs.store_line.Tie as tie
 
 words-requires : tie.Need-words-requires
 words-requires c κs = search needs

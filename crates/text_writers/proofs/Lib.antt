@@ -1,0 +1,2 @@
+-- The laws of writing texts, for the crates above.
+pub mod Laws
