@@ -252,7 +252,7 @@ def read(archive, header, tools):
 
 
 def table(arguments, frames, bounds, host):
-    form = '| %-25s | %9s | %5s | %8s | %5s | %-21s | %-15s | %-44s |'
+    form = '| %-27s | %9s | %5s | %8s | %5s | %-27s | %-15s | %-44s |'
     rows = [form % ('function', 'arguments', 'frame', 'red zone', 'bound', 'deepest through', 'of the host', 'written there'),
             form % ('---', '---:', '---:', '---:', '---:', '---', '---', '---')]
     for name in list(arguments) + sorted(n for n in frames if n not in arguments):
