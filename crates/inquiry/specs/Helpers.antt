@@ -3,12 +3,12 @@ use mathlib.Core.Path.{_≡_}
 use mathlib.Core.List.{List, _++_}
 use Prim.Native.Nat.{ℕ, _<_, _≤_, min}
 use lib.ListN.{length, take, drop}
-use Rattle.refusals.specs.Refusal.{good}
+use Rattle.refusals.specs.Refusal.{good, noStatus}
 use Rattle.inquiry.specs.declared.Answer.{Answer}
 
 -- The two answers to a page: the room does not hold what is to be written of it, and n bytes of it stand there.
 abbrev pub noRoom : Answer
-noRoom = record { number = 8; status = 0xFF; shown = 1; count = 0 }
+noRoom = record { number = 8; status = noStatus; shown = 1; count = 0 }
 
 abbrev pub filled : ℕ → Answer
 filled n = record { number = 0; status = good; shown = 1; count = n }
