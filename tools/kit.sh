@@ -42,12 +42,17 @@ kit_made_of() {
     { find crates crates.txt -type f -print0 | LC_ALL=C sort -z | xargs -0 sha256sum; sha256sum "$1"; } 2>&1 | sha256sum
 }
 
+# kit_programs NAME..: these programs in target/bin, made anew where they are not those of the sources at hand.
+kit_programs() {
+    kit_does "rt check $* fails" "$kit_root/tools/rt" check "$@"
+}
+
 # rt staticlib takes as long where nothing has changed, so it is asked only where something has; by one suite at a time.
 kit_build() (
     archive=target/staticlib/libpiongseut.a
     cd "$kit_root" && mkdir -p target/staticlib && exec 9>target/staticlib/lock && flock 9 || exit
     [ "$(kit_made_of "$archive")" != "$(cat target/staticlib/made-of 2>/dev/null)" ] || exit 0
-    rt staticlib piongseut && kit_made_of "$archive" >target/staticlib/made-of
+    tools/rt staticlib piongseut && kit_made_of "$archive" >target/staticlib/made-of
 )
 
 kit_library() {
