@@ -132,7 +132,7 @@ fn real_blocks(folder: &str) -> io::Result<Vec<Vec<u8>>> {
 /// A class of inputs that takes nothing but the board.
 type Inputs = fn(&mut Board);
 
-const CLASSES: [(&str, Inputs); 74] = [
+const CLASSES: [(&str, Inputs); 75] = [
     ("soundings C1 to C13", soundings::numbered),
     ("the other soundings", soundings::others),
     ("published examples", soundings::published),
@@ -212,6 +212,7 @@ const CLASSES: [(&str, Inputs); 74] = [
     ("roll: sizes and rows", rolls::sizes),
     ("roll: word 87 of two blocks", rolls::name_words),
     ("roll: damaged blocks", rolls::damaged),
+    ("roll: one byte differs", rolls::one_byte),
     ("intake: runs that end around byte 512", intakes::runs),
     ("intake: claims and stores", intakes::claims_and_stores),
     (
@@ -325,8 +326,6 @@ struct Agreed {
 fn seeded(board: &mut Board, asked: &Asked) -> Agreed {
     board.class("roll: planted twins");
     rolls::twins(board, asked.seed);
-    board.class("roll: one byte differs");
-    rolls::one_byte(board);
     board.class("roll: rows and pages 83h");
     let pages = rolls::pages_agree(board, asked.seed);
     board.class("intake: divided streams");
