@@ -1,2 +1,2 @@
--- What the proofs of the pages share.
+-- The law of the INQUIRY entry.
 pub mod Laws

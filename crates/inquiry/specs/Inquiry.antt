@@ -9,7 +9,7 @@ use Rattle.inquiry_fields.specs.Fields.{allocation}
 use Rattle.inquiry_checks.specs.Request.{Request, isPacket, passesThrough}
 use Rattle.inquiry_checks.specs.Asked.{page, toWrite}
 use Rattle.inquiry_checks.specs.Checks.{refusalOf}
-use Rattle.inquiry.specs.declared.Answer.{Answer}
+use Rattle.inquiry_pages.specs.declared.Answer.{Answer}
 
 -- Everything that comes back, and every lent byte that can change.
 pub record Outcome : Type 0 where

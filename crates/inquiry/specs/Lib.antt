@@ -1,3 +1,2 @@
 -- The INQUIRY entry.
 pub mod Inquiry
-pub mod Helpers

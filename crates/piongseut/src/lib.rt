@@ -2,7 +2,7 @@
 // in the same words; include/piongseut.h says it to C. Only what stands here is visible in the archive.
 use builder::Built;
 use checker::Checked;
-use inquiry::Answer;
+use inquiry_pages::Answer;
 use intake::Intake;
 use intake::Offered;
 use intake::Took;

@@ -1,6 +1,6 @@
 // Received: what is done with intakes: INQUIRY from the block of one, and the roll of a run of them. The rules stand in
 // specs/Received; each is the one that exists, over the intake's block. specs/Stream and proofs/Stream have what they say of streams.
-use inquiry::Answer;
+use inquiry_pages::Answer;
 use intake::Intake;
 use port::Ports;
 use roll::Counted;

@@ -4,7 +4,7 @@ use mathlib.Core.List.{List, _++_}
 use Prim.Native.Nat.{ℕ, _<_, _≤_, min}
 use lib.ListN.{length, take, drop}
 use Rattle.refusals.specs.Refusal.{good, noStatus}
-use Rattle.inquiry.specs.declared.Answer.{Answer}
+use Rattle.inquiry_pages.specs.declared.Answer.{Answer}
 
 -- The two answers to a page: the room does not hold what is to be written of it, and n bytes of it stand there.
 abbrev pub noRoom : Answer

@@ -1,10 +1,10 @@
 -- `serve_listed`: what is to be written, where the room holds it.
 use mathlib.Core.Path.{sym}
 use Rattle.packet.specs.Packet.{page00}
-use Rattle.inquiry.proofs.Laws.{to-write, lent, too-little, served-cut}
+use Rattle.inquiry_pages.proofs.Laws.{to-write, lent, too-little, served-cut}
 use borrow.Author.Needs.{needs}
-use Rattle.inquiry.proofs.serve_listed.Statement.{statement}
-use Rattle.inquiry.proofs.serve_listed.Tie as tie
+use Rattle.inquiry_pages.proofs.serve_listed.Statement.{statement}
+use Rattle.inquiry_pages.proofs.serve_listed.Tie as tie
 
 size-requires : tie.Need-size-requires
 size-requires c κs = search needs

@@ -2,10 +2,10 @@
 use mathlib.Core.Path.{_∙_, sym}
 use Rattle.page83.specs.Page83.{page83}
 use Rattle.page83.proofs.Laws.{page-size}
-use Rattle.inquiry.proofs.Laws.{to-write, lent, too-little, served-cut, served-whole}
+use Rattle.inquiry_pages.proofs.Laws.{to-write, lent, too-little, served-cut, served-whole}
 use borrow.Author.Needs.{needs}
-use Rattle.inquiry.proofs.serve_drive.Statement.{statement}
-use Rattle.inquiry.proofs.serve_drive.Tie as tie
+use Rattle.inquiry_pages.proofs.serve_drive.Statement.{statement}
+use Rattle.inquiry_pages.proofs.serve_drive.Tie as tie
 
 put-whole-requires : tie.Need-put-whole-requires
 put-whole-requires c κs = search needs

@@ -2,10 +2,10 @@
 use mathlib.Core.Path.{_∙_, sym}
 use Rattle.pages.specs.Page.{page89}
 use Rattle.pages.proofs.Laws.{length-page89}
-use Rattle.inquiry.proofs.Laws.{to-write, lent, too-little, served-cut}
+use Rattle.inquiry_pages.proofs.Laws.{to-write, lent, too-little, served-cut}
 use borrow.Author.Needs.{needs}
-use Rattle.inquiry.proofs.serve_information.Statement.{statement}
-use Rattle.inquiry.proofs.serve_information.Tie as tie
+use Rattle.inquiry_pages.proofs.serve_information.Statement.{statement}
+use Rattle.inquiry_pages.proofs.serve_information.Tie as tie
 
 information-size-requires : tie.Need-information-size-requires
 information-size-requires c κs = search needs

@@ -3,8 +3,8 @@ use mathlib.Core.Path.{_∙_, sym}
 use borrow.Author.Tests.{eq-eqb, ne-eqb}
 use Rattle.inquiry_checks.specs.Asked.{page}
 use borrow.Author.Needs.{needs}
-use Rattle.inquiry.proofs.serve_page.Statement.{statement}
-use Rattle.inquiry.proofs.serve_page.Tie as tie
+use Rattle.inquiry_pages.proofs.serve_page.Statement.{statement}
+use Rattle.inquiry_pages.proofs.serve_page.Tie as tie
 
 packet-drive-requires : tie.Need-packet-drive-requires
 packet-drive-requires c κs = search needs

@@ -1,10 +1,10 @@
 -- `serve_supported`: what is to be written, where the room holds it.
 use mathlib.Core.Path.{refl}
 use Rattle.pages.specs.Page.{page00}
-use Rattle.inquiry.proofs.Laws.{to-write, lent, too-little, served-cut}
+use Rattle.inquiry_pages.proofs.Laws.{to-write, lent, too-little, served-cut}
 use borrow.Author.Needs.{needs}
-use Rattle.inquiry.proofs.serve_supported.Statement.{statement}
-use Rattle.inquiry.proofs.serve_supported.Tie as tie
+use Rattle.inquiry_pages.proofs.serve_supported.Statement.{statement}
+use Rattle.inquiry_pages.proofs.serve_supported.Tie as tie
 
 lesser-requires : tie.Need-lesser-requires
 lesser-requires c κs = search needs

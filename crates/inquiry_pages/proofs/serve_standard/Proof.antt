@@ -1,10 +1,10 @@
 -- `serve_standard`: what is to be written, where the room holds it.
 use Rattle.pages.specs.Page.{standard}
 use Rattle.pages.proofs.Laws.{length-standard}
-use Rattle.inquiry.proofs.Laws.{to-write, lent, too-little, served-cut}
+use Rattle.inquiry_pages.proofs.Laws.{to-write, lent, too-little, served-cut}
 use borrow.Author.Needs.{needs}
-use Rattle.inquiry.proofs.serve_standard.Statement.{statement}
-use Rattle.inquiry.proofs.serve_standard.Tie as tie
+use Rattle.inquiry_pages.proofs.serve_standard.Statement.{statement}
+use Rattle.inquiry_pages.proofs.serve_standard.Tie as tie
 
 lesser-requires : tie.Need-lesser-requires
 lesser-requires c κs = search needs

@@ -1,0 +1,2 @@
+-- What the proofs of the pages share.
+pub mod Laws

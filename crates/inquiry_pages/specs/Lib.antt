@@ -1,0 +1,2 @@
+-- A page in answer to INQUIRY.
+pub mod Helpers
