@@ -24,8 +24,10 @@ use Rattle.roll.proofs.Laws.{length-blocks, block-of}
 use Rattle.intake.specs.Intake.{blockOf}
 use Rattle.intake.specs.Stream.{begin, runs, stream}
 use Rattle.intake.proofs.Stream.{whole-block, sum-of-the-block, no-block-yet}
+use Rattle.gathering.specs.Gathering as Gathering
+use Rattle.gathering.specs.Gathering.{gatherOf, gathered}
 use Rattle.received.specs.Received as Received
-use Rattle.received.specs.Received.{inquiryOf, gatherOf, rollOf, gathered}
+use Rattle.received.specs.Received.{inquiryOf, rollOf}
 use Rattle.checker.proofs.Judging.{damaged-block}
 use Rattle.tally.specs.Census.{refusalOf, feed}
 use Rattle.passthrough_order.specs.Order.{noOrder}
@@ -57,7 +59,7 @@ unfolding Roll.refusalOf
 roll-refusal bytes entries s w = rw (eq-eqb _ _ (s .whole), le-ltb _ _ (s .few), le-ltb _ _ (s .enough), some-damaged bytes w)
 
 pub damaged-is-refused : DamagedIsRefused
-unfolding roll gatherOf Received.gatherRefusal inquiryOf rollOf Received.refusalOf feed refusalOf
+unfolding roll gatherOf Gathering.gatherRefusal inquiryOf rollOf Received.refusalOf feed refusalOf
 damaged-is-refused =
     record {
       of-inquiry = of-inquiry;

@@ -30,8 +30,10 @@ use Rattle.roll.specs.Roll.{roll}
 use Rattle.intake.specs.declared.Intake.{Intake}
 use Rattle.intake.specs.Intake as Intake
 use Rattle.intake.specs.Intake.{taken, wrongIntake, blockOf, usedBy}
+use Rattle.gathering.specs.Gathering as Gathering
+use Rattle.gathering.specs.Gathering.{gatherOf, gathered}
 use Rattle.received.specs.Received as Received
-use Rattle.received.specs.Received.{inquiryOf, gatherOf, rollOf, gathered}
+use Rattle.received.specs.Received.{inquiryOf, rollOf}
 use Rattle.capture.specs.Capture.{fieldsOf, information, holds, end}
 use Rattle.checker.specs.declared.Checked.{Checked}
 use Rattle.checker.specs.Check as Check
@@ -135,11 +137,11 @@ of-take held store run h = by (wrongIntake (held .have) (length store)) h
     by true h = refl
     by false h = absurd (h refl)
 
-of-gather : (haves stores room : List ℕ) → Refused (gatherOf haves stores room .gathered .number) → gatherOf haves stores room ≡ Received.gatherOutcome (Received.given (gatherOf haves stores room .gathered .number) 0) room
+of-gather : (haves stores room : List ℕ) → Refused (gatherOf haves stores room .gathered .number) → gatherOf haves stores room ≡ Gathering.gatherOutcome (Gathering.given (gatherOf haves stores room .gathered .number) 0) room
 unfolding gatherOf
 of-gather haves stores room h =
-    let r = Received.gatherRefusal haves stores (length room) in
-    by-number (λ (o : Received.GatherOutcome). o .gathered .number) (λ n. Received.gatherOutcome (Received.given n 0) room) _ r (eqb r 0) refl refl h
+    let r = Gathering.gatherRefusal haves stores (length room) in
+    by-number (λ (o : Gathering.GatherOutcome). o .gathered .number) (λ n. Gathering.gatherOutcome (Gathering.given n 0) room) _ r (eqb r 0) refl refl h
 
 of-inquiry-from-intake : (have : ℕ) (store command signature texts reply : List ℕ) (ports : Ports) (address : List ℕ) (form : ℕ) (room sense : List ℕ) → Refused (inquiryOf have store command signature texts reply ports address form room sense .answer .number) → inquiryOf have store command signature texts reply ports address form room sense ≡ Inquiry.refused form (inquiryOf have store command signature texts reply ports address form room sense .answer .number) room sense
 unfolding inquiryOf
@@ -164,7 +166,7 @@ not-by-roll false short number e = by (eqb number 0) refl e
 rolled-zero : (haves stores room rows : List ℕ) → Received.refusalOf haves stores (length room) (length rows) ≡ 0 → Received.rolled (gathered haves stores) room rows .counted .number ≡ 0
 unfolding Received.refusalOf roll
 rolled-zero haves stores room rows e =
-    rw (eq-eqb (Roll.refusalOf (gathered haves stores) (length rows)) 0 (not-by-roll (Received.wrongRun haves (length stores)) (ltb (length room) (length (gathered haves stores))) (Roll.refusalOf (gathered haves stores) (length rows)) e))
+    rw (eq-eqb (Roll.refusalOf (gathered haves stores) (length rows)) 0 (not-by-roll (Gathering.wrongRun haves (length stores)) (ltb (length room) (length (gathered haves stores))) (Roll.refusalOf (gathered haves stores) (length rows)) e))
 
 of-roll-of-intakes : (haves stores room rows : List ℕ) → Refused (rollOf haves stores room rows .counted .number) → rollOf haves stores room rows ≡ Received.outcome (record { number = rollOf haves stores room rows .counted .number; blocks = 0; drives = 0 }) room rows
 unfolding rollOf

@@ -54,8 +54,10 @@ use Rattle.intake.specs.Intake as Intake
 use Rattle.intake.specs.declared.Took.{Took}
 use Rattle.intake.specs.Intake.{wrongIntake, taken, blockOf}
 use Rattle.intake.specs.Stream.{begin, step, runs, stream}
+use Rattle.gathering.specs.Gathering as Gathering
+use Rattle.gathering.specs.Gathering.{gathered, wrongRun, gatherOf}
 use Rattle.received.specs.Received as Received
-use Rattle.received.specs.Received.{inquiryOf, gathered, wrongRun, gatherOf, rollOf}
+use Rattle.received.specs.Received.{inquiryOf, rollOf}
 use Rattle.received.specs.Stream.{Bay, Stores, havesOf, storesOf, blockIn, blocksOf}
 use Rattle.packet.specs.Packet.{packetDrive}
 use Rattle.capture.specs.Capture.{Field, field, captured, information, holds}
@@ -112,7 +114,7 @@ pub record RefusalsChangeNothing : Type 0 where
   pub of-read : (page : List ℕ) → Refused (read page .number) → read page ≡ Reader.refused
   pub of-roll : (bytes room : List ℕ) → Refused (roll bytes room .counted .number) → roll bytes room ≡ Roll.outcome (record { number = roll bytes room .counted .number; blocks = 0; drives = 0 }) room
   pub of-take : (held : Intake) (store run : List ℕ) → Refused (taken held store run .took .number) → taken held store run ≡ Intake.outcome (Intake.answer held 0 (taken held store run .took .number) 0) store
-  pub of-gather : (haves stores room : List ℕ) → Refused (gatherOf haves stores room .gathered .number) → gatherOf haves stores room ≡ Received.gatherOutcome (Received.given (gatherOf haves stores room .gathered .number) 0) room
+  pub of-gather : (haves stores room : List ℕ) → Refused (gatherOf haves stores room .gathered .number) → gatherOf haves stores room ≡ Gathering.gatherOutcome (Gathering.given (gatherOf haves stores room .gathered .number) 0) room
   pub of-inquiry-from-intake : (have : ℕ) (store command signature texts reply : List ℕ) (ports : Ports) (address : List ℕ) (form : ℕ) (room sense : List ℕ) → Refused (inquiryOf have store command signature texts reply ports address form room sense .answer .number) → inquiryOf have store command signature texts reply ports address form room sense ≡ Inquiry.refused form (inquiryOf have store command signature texts reply ports address form room sense .answer .number) room sense
   pub of-roll-of-intakes : (haves stores room rows : List ℕ) → Refused (rollOf haves stores room rows .counted .number) → rollOf haves stores room rows ≡ Received.outcome (record { number = rollOf haves stores room rows .counted .number; blocks = 0; drives = 0 }) room rows
   pub of-feed : (c : Census) (block : List ℕ) → Refused (feed c block .number) → feed c block ≡ Census.answer c (feed c block .number)
@@ -139,7 +141,7 @@ pub record DamagedIsRefused : Type 0 where
   pub of-submit : (p : Pending) (command registers block : List ℕ) (declared edition form : ℕ) (sense : List ℕ) → isLater edition ≡ true → PassChecks.wrongSize (length registers) (length sense) ≡ false → damaged block ≡ true → submit p command registers block declared edition form sense ≡ Submit.outcome (Submit.answer p 18 noStatus noOrder) sense
   pub of-write : (block : List ℕ) (ports : Ports) (address room : List ℕ) → wrongAddress ports address ≡ false → damaged block ≡ true → write block ports address room ≡ Page83.outcome (record { number = 18; count = 0 }) room
   pub of-roll : (bytes room : List ℕ) → RollSized bytes (length room) → SomeDamaged bytes → roll bytes room ≡ Roll.outcome (record { number = 18; blocks = 0; drives = 0 }) room
-  pub of-gather : (haves stores room : List ℕ) → wrongRun haves (length stores) ≡ false → SomeDamaged (gathered haves stores) → gatherOf haves stores room ≡ Received.gatherOutcome (Received.given 18 0) room
+  pub of-gather : (haves stores room : List ℕ) → wrongRun haves (length stores) ≡ false → SomeDamaged (gathered haves stores) → gatherOf haves stores room ≡ Gathering.gatherOutcome (Gathering.given 18 0) room
   pub of-inquiry-from-intake : (have : ℕ) (store command signature texts reply : List ℕ) (ports : Ports) (address : List ℕ) (form : ℕ) (room sense : List ℕ) → wrongIntake have (length store) ≡ false → wrongSize (blockOf have store) signature texts ports address (length sense) ≡ false → damaged (blockOf have store) ≡ true → inquiryOf have store command signature texts reply ports address form room sense ≡ Inquiry.outcome (record { number = 18; status = noStatus; shown = 1; count = 0 }) room sense
   pub of-roll-of-intakes : (haves stores room rows : List ℕ) → wrongRun haves (length stores) ≡ false → RollSized (gathered haves stores) (length rows) → SomeDamaged (gathered haves stores) → rollOf haves stores room rows ≡ Received.outcome (record { number = 18; blocks = 0; drives = 0 }) room rows
   pub of-feed : (c : Census) (block : List ℕ) → closed c ≡ false → damaged block ≡ true → feed c block ≡ Census.answer c 18

@@ -2,6 +2,7 @@
 // in the same words; include/piongseut.h says it to C. Only what stands here is visible in the archive.
 use builder::Built;
 use checker::Checked;
+use gathering::Gathered;
 use inquiry_pages::Answer;
 use intake::Intake;
 use intake::Offered;
@@ -13,7 +14,6 @@ use passthrough::Pending;
 use passthrough::Taken;
 use passthrough_order::Order;
 use port::Ports;
-use received::Gathered;
 use roll::Counted;
 use tally::Census;
 use tally::Fed;
@@ -30,7 +30,7 @@ ghost use Rattle.page83_reader.specs.Reader.{read as readRule};
 ghost use Rattle.checker.specs.Check.{check as checkRule};
 ghost use Rattle.roll.specs.Roll.{outcome as rollOutcome, roll as rollRule};
 ghost use Rattle.intake.specs.Intake.{empty as emptyIntake, outcome as takenOutcome, taken as takenRule, offered};
-ghost use Rattle.received.specs.Received.{gatherOutcome, gatherOf};
+ghost use Rattle.gathering.specs.Gathering.{gatherOutcome, gatherOf};
 ghost use Rattle.tally.specs.Census.{empty as emptyCensus, feed as feedRule};
 
 // Answers an INQUIRY command.
@@ -180,7 +180,7 @@ pub extern "C" fn piongseut_intake_block(intake: Intake, store: usize) -> Offere
 pub extern "C" fn piongseut_intake_gather(haves: &[u16], stores: &[u8], room: &mut [u8]) -> Gathered
     ensures { λ r. ⌜ gatherOutcome r (now (room .exit)) ≡ gatherOf (now (haves .entry)) (now (stores .entry)) (now (room .entry)) ⌝ }
 {
-    received::gather(haves, stores, room)
+    gathering::gather(haves, stores, room)
 }
 
 // A census that has counted nothing.

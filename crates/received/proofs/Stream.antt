@@ -18,7 +18,8 @@ use Rattle.inquiry_checks.specs.Request.{request}
 use Rattle.inquiry.specs.Inquiry.{inquiry}
 use Rattle.roll.specs.Roll as Roll
 use Rattle.roll.specs.Roll.{roll}
-use Rattle.received.specs.Received.{inquiryOf, claimsTooMuch, gathered, wrongRun, refusalOf, Outcome, rollOf}
+use Rattle.gathering.specs.Gathering.{claimsTooMuch, gathered, wrongRun}
+use Rattle.received.specs.Received.{inquiryOf, refusalOf, Outcome, rollOf}
 use Rattle.received.specs.Stream.{Bay, Stores, end, havesOf, storesOf, blockIn, blocksOf}
 
 -- The INQUIRY entry from one stream: with all of its block, and with none before.

@@ -6,8 +6,9 @@ use lib.ListN.{length}
 use lib.Seq.{length-take-le}
 use borrow.Author.Tests.{lt-ltb, le-ltb}
 use Rattle.room.proofs.Laws.{length-written, front}
-use Rattle.received.specs.Received.{gathered}
-use Rattle.received.proofs.Laws.{fits, roll-refused, too-many, too-few-rows, roll-damaged, roll-short, roll-served, length-gathered}
+use Rattle.gathering.specs.Gathering.{gathered}
+use Rattle.gathering.proofs.Laws.{fits, length-gathered}
+use Rattle.received.proofs.Laws.{roll-refused, too-many, too-few-rows, roll-damaged, roll-short, roll-served}
 use borrow.Author.Needs.{needs}
 use Rattle.received.proofs.roll.Statement.{statement}
 use Rattle.received.proofs.roll.Tie as tie

@@ -5,9 +5,9 @@ use native.Mathlib.Omega.{arith}
 use lib.ListN.{length}
 use borrow.Author.Tests.{lt-ltb, le-ltb}
 use borrow.Author.Needs.{needs}
-use Rattle.received.proofs.Laws.{Looking, look-on, none-left}
-use Rattle.received.proofs.claims_too_much.Statement.{statement}
-use Rattle.received.proofs.claims_too_much.Tie as tie
+use Rattle.gathering.proofs.Laws.{Looking, look-on, none-left}
+use Rattle.gathering.proofs.claims_too_much.Statement.{statement}
+use Rattle.gathering.proofs.claims_too_much.Tie as tie
 
 abbrev Inv-loop : tie.InvT-loop
 Inv-loop haves i₀ i = Looking haves i

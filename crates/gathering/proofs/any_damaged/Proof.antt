@@ -7,9 +7,9 @@ use lib.ListN.{length, getD, take, drop}
 use Rattle.checksum.specs.Checksum.{damaged}
 use Rattle.intake.specs.Intake.{blockOf}
 use borrow.Author.Needs.{needs}
-use Rattle.received.proofs.Laws.{Asking, ask-on, none-damaged, fits, each-right}
-use Rattle.received.proofs.any_damaged.Statement.{statement}
-use Rattle.received.proofs.any_damaged.Tie as tie
+use Rattle.gathering.proofs.Laws.{Asking, ask-on, none-damaged, fits, each-right}
+use Rattle.gathering.proofs.any_damaged.Statement.{statement}
+use Rattle.gathering.proofs.any_damaged.Tie as tie
 
 abbrev Inv-loop : tie.InvT-loop
 Inv-loop haves stores k₀ k = Asking haves stores k

@@ -3,9 +3,9 @@ use Prim.Native.Nat.{_-_}
 use native.Mathlib.Omega.{arith}
 use lib.ListN.{length}
 use borrow.Author.Needs.{needs}
-use Rattle.received.proofs.Laws.{Counting, begin-counting, count-on, all-counted}
-use Rattle.received.proofs.count_complete.Statement.{statement}
-use Rattle.received.proofs.count_complete.Tie as tie
+use Rattle.gathering.proofs.Laws.{Counting, begin-counting, count-on, all-counted}
+use Rattle.gathering.proofs.count_complete.Statement.{statement}
+use Rattle.gathering.proofs.count_complete.Tie as tie
 
 abbrev Inv-loop : tie.InvT-loop
 Inv-loop haves count₀ i₀ count i = Counting haves count i

@@ -1,8 +1,8 @@
 -- `counts`: by whether it is complete.
 use native.Mathlib.Omega.{arith}
 use borrow.Author.Tests.{eq-eqb, ne-eqb}
-use Rattle.received.proofs.counts.Statement.{statement}
-use Rattle.received.proofs.counts.Tie as tie
+use Rattle.gathering.proofs.counts.Statement.{statement}
+use Rattle.gathering.proofs.counts.Tie as tie
 
 returns : tie.Need-returns
 returns c = (rw (eq-eqb _ _ (c .if1 .taken)), omega arith)

@@ -2,10 +2,10 @@
 use mathlib.Core.Path.{_∙_, sym}
 use native.Mathlib.Omega.{arith}
 use lib.ListN.{length}
-use Rattle.received.proofs.Laws.{fits, gather-refused, gather-damaged, gather-short, gather-served}
+use Rattle.gathering.proofs.Laws.{fits, gather-refused, gather-damaged, gather-short, gather-served}
 use borrow.Author.Needs.{needs}
-use Rattle.received.proofs.gather.Statement.{statement}
-use Rattle.received.proofs.gather.Tie as tie
+use Rattle.gathering.proofs.gather.Statement.{statement}
+use Rattle.gathering.proofs.gather.Tie as tie
 
 wrong-run-requires : tie.Need-wrong-run-requires
 wrong-run-requires c κs = search needs

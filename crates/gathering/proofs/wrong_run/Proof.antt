@@ -5,8 +5,8 @@ use Prim.Native.Nat.{_*_}
 use mathlib.Core.Path.{_≡_}
 use borrow.Author.Tests.{eq-eqb, ne-eqb}
 use borrow.Author.Needs.{needs}
-use Rattle.received.proofs.wrong_run.Statement.{statement}
-use Rattle.received.proofs.wrong_run.Tie as tie
+use Rattle.gathering.proofs.wrong_run.Statement.{statement}
+use Rattle.gathering.proofs.wrong_run.Tie as tie
 
 returns : tie.Need-returns
 returns c =

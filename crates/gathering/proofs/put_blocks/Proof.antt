@@ -4,9 +4,9 @@ use Prim.Native.Nat.{_-_, _≤_}
 use native.Mathlib.Omega.{arith}
 use lib.ListN.{length, getD}
 use borrow.Author.Needs.{needs}
-use Rattle.received.proofs.Laws.{Gathering, begin-gathering, gather-on, all-gathered, block-at-most, fits, each-right}
-use Rattle.received.proofs.put_blocks.Statement.{statement}
-use Rattle.received.proofs.put_blocks.Tie as tie
+use Rattle.gathering.proofs.Laws.{Gathering, begin-gathering, gather-on, all-gathered, block-at-most, fits, each-right}
+use Rattle.gathering.proofs.put_blocks.Statement.{statement}
+use Rattle.gathering.proofs.put_blocks.Tie as tie
 
 abbrev Inv-loop : tie.InvT-loop
 Inv-loop haves stores room₀ at₀ i₀ room at i = Gathering haves stores room₀ room at i
