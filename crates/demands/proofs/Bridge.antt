@@ -24,8 +24,8 @@ use Rattle.pages.specs.Page.{standard, page00, page80, page89, informationHead,
 use Rattle.pages.proofs.Laws.{length-standard, length-page80, length-page89}
 use Rattle.packet.specs.Packet.{packetDrive}
 use Rattle.inquiry_fields.specs.Fields.{evpd, pageCode, allocation}
-use Rattle.inquiry_checks.specs.Request.{Request, isPacket, passesThrough}
-use Rattle.inquiry_checks.specs.Asked.{page}
+use Rattle.inquiry_asked.specs.Request.{Request, isPacket, passesThrough}
+use Rattle.inquiry_asked.specs.Asked.{page}
 use Rattle.inquiry_checks.specs.Checks.{knownPage, checks, refusalOf}
 use Rattle.inquiry_checks.proofs.Laws.{sized}
 use Rattle.inquiry.specs.Inquiry.{inquiry}

@@ -14,7 +14,7 @@ use Rattle.port.specs.declared.Ports.{Ports}
 use Rattle.port.specs.Ports.{wrongAddress}
 use Rattle.page83.specs.Page83 as Page83
 use Rattle.page83.specs.Page83.{write}
-use Rattle.inquiry_checks.specs.Request.{Request, request}
+use Rattle.inquiry_asked.specs.Request.{Request, request}
 use Rattle.inquiry_checks.specs.Checks as InquiryChecks
 use Rattle.inquiry.specs.Inquiry as Inquiry
 use Rattle.inquiry.specs.Inquiry.{inquiry}

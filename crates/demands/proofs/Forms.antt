@@ -16,7 +16,7 @@ use Rattle.refusals.proofs.Table.{roomy-unless}
 use Rattle.refusals.proofs.Table.{checks, writes, writes-nothing, busy-or-none}
 use Rattle.sense.proofs.Carried.{forms-agree, written-agree}
 use Rattle.port.specs.declared.Ports.{Ports}
-use Rattle.inquiry_checks.specs.Request.{Request, request, isPacket, passesThrough}
+use Rattle.inquiry_asked.specs.Request.{Request, request, isPacket, passesThrough}
 use Rattle.inquiry_checks.specs.Checks as InquiryChecks
 use Rattle.inquiry_checks.proofs.Laws as InquiryLaws
 use Rattle.inquiry.specs.Inquiry as Inquiry

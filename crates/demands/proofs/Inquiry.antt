@@ -12,8 +12,8 @@ use borrow.Author.Tests.{eq-eqb, ne-eqb, eqb-false, le-ltb}
 use Rattle.laws.proofs.Laws.{cut-twice, cut-to-more, cut-to-the-size}
 use Rattle.page83.specs.Page83.{page83}
 use Rattle.inquiry_fields.specs.Fields.{evpd, pageCode, allocation}
-use Rattle.inquiry_checks.specs.Request.{Request, passesThrough, isPacket}
-use Rattle.inquiry_checks.specs.Asked.{page, toWrite}
+use Rattle.inquiry_asked.specs.Request.{Request, passesThrough, isPacket}
+use Rattle.inquiry_asked.specs.Asked.{page, toWrite}
 use Rattle.inquiry_checks.specs.Checks.{refusalOf}
 use Rattle.inquiry_checks.specs.Helpers.{earlyRefusal}
 use Rattle.inquiry_checks.proofs.Laws.{granted, accepted-early}

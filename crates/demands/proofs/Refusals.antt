@@ -14,7 +14,7 @@ use Rattle.page83.specs.Page83.{write}
 use Rattle.page83_reader.specs.declared.Name.{Name}
 use Rattle.page83_reader.specs.Reader as Reader
 use Rattle.page83_reader.specs.Reader.{headed, namesDrive, tellsTexts, tellsPorts, inSixty, told, read}
-use Rattle.inquiry_checks.specs.Request.{Request, request, isPacket, passesThrough}
+use Rattle.inquiry_asked.specs.Request.{Request, request, isPacket, passesThrough}
 use Rattle.inquiry_checks.specs.Checks as InquiryChecks
 use Rattle.inquiry.specs.Inquiry as Inquiry
 use Rattle.inquiry.specs.Inquiry.{inquiry}

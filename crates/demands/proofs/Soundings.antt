@@ -10,7 +10,7 @@ use Rattle.refusals.specs.Refusal.{rowOf, refusedSense}
 use Rattle.port.specs.Ports.{relativePart, sasPart, wrongAddress, wrongPort}
 use Rattle.page83_drive.specs.Descriptor.{driveDescriptor}
 use Rattle.page83.specs.Page83.{page83}
-use Rattle.inquiry_checks.specs.Asked.{page}
+use Rattle.inquiry_asked.specs.Asked.{page}
 use Rattle.inquiry_checks.specs.Checks.{refusalOf as inquiryRefusal}
 use Rattle.inquiry.specs.Inquiry.{inquiry}
 use Rattle.passthrough_length.specs.Length.{lengthOf}

@@ -6,7 +6,7 @@ use Prim.Native.Nat.{ℕ}
 use lib.Dec.{leb}
 use lib.ListN.{length, take}
 use borrow.Author.Tests.{leb-true, leb-false}
-use Rattle.inquiry_checks.specs.Request.{request}
+use Rattle.inquiry_asked.specs.Request.{request}
 use Rattle.inquiry.specs.Inquiry.{inquiry}
 use Rattle.intake.specs.Stream.{begin, runs, stream}
 use Rattle.intake.proofs.Stream as Intake

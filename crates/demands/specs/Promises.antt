@@ -29,9 +29,9 @@ use Rattle.page83_reader.specs.declared.Name.{Name}
 use Rattle.page83_reader.specs.Reader as Reader
 use Rattle.page83_reader.specs.Reader.{inSixty, read}
 use Rattle.inquiry_fields.specs.Fields.{evpd, cmddt, pageCode, allocation, naca}
-use Rattle.inquiry_checks.specs.Request.{Request, request, isPacket}
+use Rattle.inquiry_asked.specs.Request.{Request, request, isPacket}
+use Rattle.inquiry_asked.specs.Asked.{page}
 use Rattle.inquiry_checks.specs.Checks.{wrongSize}
-use Rattle.inquiry_checks.specs.Asked.{page}
 use Rattle.inquiry.specs.Inquiry as Inquiry
 use Rattle.inquiry.specs.Inquiry.{inquiry, part}
 use Rattle.passthrough_fields.specs.Fields.{long, longest, size, protocol, tDir, ckCond, extend}

@@ -9,7 +9,7 @@ use lib.ListN.{length, drop, replicate}
 use Rattle.identify.specs.Bytes.{equal}
 use Rattle.sense.specs.Sense.{descriptor}
 use Rattle.refusals.specs.Refusal.{rowOf, refusedSense, good, checkCondition, noStatus}
-use Rattle.inquiry_checks.specs.Request.{request}
+use Rattle.inquiry_asked.specs.Request.{request}
 use Rattle.inquiry.specs.Inquiry.{inquiry, Outcome}
 use Rattle.passthrough_order.specs.declared.Order.{Order}
 use Rattle.passthrough_order.specs.Order.{noOrder}

@@ -8,8 +8,8 @@ use lib.ListN.{length}
 use borrow.Author.Tests.{ltb-true, ltb-false}
 use Rattle.refusals.specs.Refusal.{rowOf, refusedSense}
 use Rattle.inquiry_fields.specs.Fields.{allocation}
-use Rattle.inquiry_checks.specs.Request.{Request, isPacket, passesThrough}
-use Rattle.inquiry_checks.specs.Asked.{page, toWrite}
+use Rattle.inquiry_asked.specs.Request.{Request, isPacket, passesThrough}
+use Rattle.inquiry_asked.specs.Asked.{page, toWrite}
 use Rattle.inquiry_checks.specs.Checks.{refusalOf}
 use Rattle.inquiry_pages.specs.declared.Answer.{Answer}
 use Rattle.inquiry_pages.specs.Helpers.{Answered}

@@ -6,8 +6,8 @@ use lib.Dec.{eqb}
 use lib.ListN.{length, take, drop}
 use Rattle.refusals.specs.Refusal.{rowOf, refusedSense, good}
 use Rattle.inquiry_fields.specs.Fields.{allocation}
-use Rattle.inquiry_checks.specs.Request.{Request, isPacket, passesThrough}
-use Rattle.inquiry_checks.specs.Asked.{page, toWrite}
+use Rattle.inquiry_asked.specs.Request.{Request, isPacket, passesThrough}
+use Rattle.inquiry_asked.specs.Asked.{page, toWrite}
 use Rattle.inquiry_checks.specs.Checks.{refusalOf}
 use Rattle.inquiry_pages.specs.declared.Answer.{Answer}
 

@@ -6,7 +6,7 @@ ghost use mathlib.Core.List.{List};
 ghost use lib.ListN.{length};
 ghost use Rattle.refusals.specs.Refusal.{rowOf, refusedSense};
 ghost use Rattle.refusals.specs.Helpers.{Roomy};
-ghost use Rattle.inquiry_checks.specs.Request.{request};
+ghost use Rattle.inquiry_asked.specs.Request.{request};
 ghost use Rattle.inquiry.specs.Inquiry.{outcome, inquiry as Inquiry·inquiry, part as Inquiry·part};
 
 // A refusal: an empty part of the room, and the sense bytes of its row.
@@ -54,7 +54,7 @@ pub fn inquiry(
     }
     let packet = packet::packet_drive(signature);
     let allocation = inquiry_fields::allocation(command);
-    if inquiry_checks::passes_through(packet, command) {
+    if inquiry_asked::passes_through(packet, command) {
         return Answer {
             number: 0,
             status: refusals::GOOD,

@@ -13,10 +13,11 @@ use Rattle.port.specs.declared.Ports.{Ports}
 use Rattle.port.specs.Ports.{wrongAddress}
 use Rattle.packet.specs.Packet.{unusable}
 use Rattle.inquiry_fields.specs.Fields.{evpd, cmddt, pageCode}
-use Rattle.inquiry_checks.specs.Request.{Request, isPacket, passesThrough}
+use Rattle.inquiry_asked.specs.Request.{Request, isPacket, passesThrough}
+use Rattle.inquiry_asked.specs.Asked.{toWrite}
+use Rattle.inquiry_asked.specs.Helpers.{Servable}
 use Rattle.inquiry_checks.specs.Checks.{wrongSize, checks, refusalOf}
-use Rattle.inquiry_checks.specs.Asked.{toWrite}
-use Rattle.inquiry_checks.specs.Helpers.{earlyRefusal, Servable}
+use Rattle.inquiry_checks.specs.Helpers.{earlyRefusal}
 
 -- The sizes, where check 1 does not apply.
 pub record Sized (block signature texts : List ℕ) (ports : Ports) (address : List ℕ) (sense : ℕ) : Type 0 where

@@ -1,2 +1,2 @@
--- The laws of what is asked.
+-- What the checks leave true once they have passed.
 pub mod Laws

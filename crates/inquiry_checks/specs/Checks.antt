@@ -10,8 +10,8 @@ use Rattle.port.specs.declared.Ports.{Ports}
 use Rattle.port.specs.Ports.{wrongAddress, wrongPort}
 use Rattle.packet.specs.Packet.{unusable}
 use Rattle.inquiry_fields.specs.Fields.{evpd, cmddt, pageCode, naca}
-use Rattle.inquiry_checks.specs.Request.{Request, isPacket, passesThrough}
-use Rattle.inquiry_checks.specs.Asked.{toWrite}
+use Rattle.inquiry_asked.specs.Request.{Request, isPacket, passesThrough}
+use Rattle.inquiry_asked.specs.Asked.{toWrite}
 
 -- 1: a block of neither 512 bytes nor none, a signature not of 20, texts not of 28, a chosen address not of 8, or a sense room
 -- below 22.

@@ -1,5 +1,3 @@
--- What is asked of INQUIRY, and the checks that refuse it.
-pub mod Request
-pub mod Asked
+-- The checks that refuse an INQUIRY.
 pub mod Checks
 pub mod Helpers

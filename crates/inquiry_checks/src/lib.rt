@@ -1,5 +1,5 @@
-// Inquiry checks: what is asked of INQUIRY, and the checks, one function each; `fault` runs them in the table's
-// order. The rules stand in specs/: Request, Asked and Checks.
+// Inquiry checks: the checks that refuse an INQUIRY, one function each; `fault` runs them in the table's order. The rules stand in
+// specs/Checks.
 use port::Ports;
 ghost use mathlib.Core.Path.{_≡_};
 ghost use mathlib.Core.Bool.{Bool, true, _&&_, _||_, not};
@@ -7,10 +7,9 @@ ghost use mathlib.Core.List.{List};
 ghost use Prim.Native.Nat.{ℕ, _≤_};
 ghost use lib.Dec.{eqb};
 ghost use lib.ListN.{length};
-ghost use Rattle.inquiry_fields.specs.Fields.{evpd};
-ghost use Rattle.inquiry_checks.specs.Request.{request, passesThrough};
+ghost use Rattle.inquiry_asked.specs.Request.{request};
 ghost use Rattle.inquiry_checks.specs.Checks.{wrongSize, wrongField, knownPage, wrongPage, noBlock, noPort, noList};
-ghost use Rattle.inquiry_checks.specs.Helpers.{driveAsked, commandRefusal, earlyRefusal};
+ghost use Rattle.inquiry_checks.specs.Helpers.{commandRefusal, earlyRefusal};
 
 // Neither 512 bytes nor none.
 fn wrong_block(block: usize) -> bool
@@ -122,49 +121,15 @@ fn no_block(packet: bool, command: &[u8], block: &[u8]) -> bool
     command[2] == 0x83
 }
 
-// Whether page 83h is asked for.
-fn drive_asked(packet: bool, command: &[u8]) -> bool
-    requires { ⌜ 6 ≤ length (now command) ⌝ }
-    ensures { λ r. ⌜ r ≡ driveAsked packet (now (command .entry)) ⌝ }
-{
-    if packet {
-        return false;
-    }
-    if inquiry_fields::evpd(command) {
-        return command[2] == 0x83;
-    }
-    false
-}
-
 // 19: page 83h, and a port that is not 1 or 2.
 fn no_port(packet: bool, command: &[u8], ports: Ports) -> bool
     requires { ⌜ 6 ≤ length (now command) ⌝ }
     ensures { λ r. ⌜ r ≡ (not packet && noPort (now (command .entry)) ports) ⌝ }
 {
-    if drive_asked(packet, command) {
+    if inquiry_asked::drive_asked(packet, command) {
         return port::wrong_port(ports);
     }
     false
-}
-
-// Whether a packet drive's own reply is shown.
-pub fn passes_through(packet: bool, command: &[u8]) -> bool
-    requires { ⌜ 6 ≤ length (now command) ⌝ }
-    ensures { λ r. ⌜ r ≡ passesThrough packet (now (command .entry)) ⌝ }
-{
-    if !packet {
-        return false;
-    }
-    if !inquiry_fields::evpd(command) {
-        return true;
-    }
-    if inquiry_fields::cmddt(command) {
-        return true;
-    }
-    if command[2] == 0x00 {
-        return false;
-    }
-    command[2] != 0x89
 }
 
 // 7: a packet drive's page 00h, and its own cannot be used.
@@ -175,24 +140,13 @@ fn no_list(packet: bool, command: &[u8], reply: &[u8]) -> bool
     if !packet {
         return false;
     }
-    if passes_through(packet, command) {
+    if inquiry_asked::passes_through(packet, command) {
         return false;
     }
     if command[2] != 0x00 {
         return false;
     }
     packet::unusable(reply)
-}
-
-// Whether standard data is asked for.
-pub fn standard_asked(packet: bool, command: &[u8]) -> bool
-    requires { ⌜ 6 ≤ length (now command) ⌝ }
-    ensures { λ r. ⌜ r ≡ (not packet && not (evpd (now (command .entry)))) ⌝ }
-{
-    if packet {
-        return false;
-    }
-    !inquiry_fields::evpd(command)
 }
 
 // The number of the first check of a whole command that applies, and 0 where none does.

@@ -1,5 +1,5 @@
 // Inquiry pages: a page in answer to INQUIRY, as much of it as is asked for, into the room. What is asked, and how much of it is to be
-// written, stand in inquiry_checks/specs/Asked.
+// written, stand in inquiry_asked/specs/Asked.
 use port::Ports;
 ghost use mathlib.Core.Path.{_≡_};
 ghost use mathlib.Core.Bool.{Bool, false};
@@ -10,9 +10,9 @@ ghost use Rattle.page83.specs.Page83.{page83};
 ghost use Rattle.pages.specs.Page.{standard, page00, page80, page89};
 ghost use Rattle.pages.specs.Helpers.{WholeOrNone};
 ghost use Rattle.packet.specs.Packet.{unusable, page00 as packetPage00};
-ghost use Rattle.inquiry_checks.specs.Request.{request};
-ghost use Rattle.inquiry_checks.specs.Helpers.{Servable};
-ghost use Rattle.inquiry_checks.specs.Asked.{page as Inquiry·page};
+ghost use Rattle.inquiry_asked.specs.Request.{request};
+ghost use Rattle.inquiry_asked.specs.Asked.{page as Inquiry·page};
+ghost use Rattle.inquiry_asked.specs.Helpers.{Servable};
 ghost use Rattle.inquiry_pages.specs.Helpers.{noRoom, filled as Helpers·filled, Answered};
 
 // What comes back: the refusal's number or 0, the status, which slice is shown (0 the drive's reply, 1 the room), and how many
@@ -160,7 +160,7 @@ pub fn serve_page(
     ensures { λ r. ⌜ Answered (Inquiry·page (request (now (command .entry)) (now (block .entry)) (now (signature .entry)) (now (texts .entry)) (now (reply .entry)) ports (now (address .entry)))) allocation (now (room .entry)) r (now (room .exit)) ⌝ }
 {
     let packet = packet::packet_drive(signature);
-    if inquiry_checks::standard_asked(packet, command) {
+    if inquiry_asked::standard_asked(packet, command) {
         return serve_standard(room, block, allocation);
     }
     if command[2] == 0x00 {

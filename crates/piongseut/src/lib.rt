@@ -19,7 +19,7 @@ use tally::Census;
 use tally::Fed;
 ghost use mathlib.Core.Path.{_≡_};
 ghost use mathlib.Core.List.{List};
-ghost use Rattle.inquiry_checks.specs.Request.{request};
+ghost use Rattle.inquiry_asked.specs.Request.{request};
 ghost use Rattle.inquiry.specs.Inquiry.{outcome as inquiryOutcome, inquiry as inquiryRule};
 ghost use Rattle.passthrough.specs.Record.{empty};
 ghost use Rattle.passthrough.specs.Submit.{outcome as submitOutcome, submit as submitRule};

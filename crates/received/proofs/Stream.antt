@@ -14,7 +14,7 @@ use Rattle.intake.specs.Stream.{Held, begin, runs, stream}
 use Rattle.intake.proofs.Stream.{whole-block, no-block-yet, right-end}
 use Rattle.intake.proofs.Laws.{right}
 use Rattle.port.specs.declared.Ports.{Ports}
-use Rattle.inquiry_checks.specs.Request.{request}
+use Rattle.inquiry_asked.specs.Request.{request}
 use Rattle.inquiry.specs.Inquiry.{inquiry}
 use Rattle.roll.specs.Roll as Roll
 use Rattle.roll.specs.Roll.{roll}

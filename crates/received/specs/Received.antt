@@ -8,7 +8,7 @@ use Rattle.rules.specs.First.{Check, _when_, first}
 use Rattle.room.specs.Room.{written}
 use Rattle.intake.specs.Intake.{wrongIntake, blockOf}
 use Rattle.port.specs.declared.Ports.{Ports}
-use Rattle.inquiry_checks.specs.Request.{request}
+use Rattle.inquiry_asked.specs.Request.{request}
 use Rattle.inquiry.specs.Inquiry.{refused, inquiry}
 use Rattle.inquiry.specs.Inquiry as Inquiry
 use Rattle.roll.specs.declared.Counted.{Counted}

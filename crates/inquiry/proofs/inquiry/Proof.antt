@@ -4,8 +4,8 @@ use mathlib.Core.Bool.{false, cond, not, _&&_}
 use lib.Dec.{ltb}
 use lib.ListN.{length}
 use borrow.Author.Tests.{ne-eqb}
-use Rattle.inquiry_checks.specs.Request.{Request, request, isPacket, passesThrough}
-use Rattle.inquiry_checks.specs.Asked.{toWrite}
+use Rattle.inquiry_asked.specs.Request.{Request, request, isPacket, passesThrough}
+use Rattle.inquiry_asked.specs.Asked.{toWrite}
 use Rattle.inquiry_checks.specs.Checks.{refusalOf}
 use Rattle.inquiry_checks.specs.Helpers.{earlyRefusal}
 use Rattle.inquiry.specs.Inquiry.{inquiry}

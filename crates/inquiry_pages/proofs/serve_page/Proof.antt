@@ -1,7 +1,7 @@
 -- `serve_page`: the page that the tests lead to.
 use mathlib.Core.Path.{_∙_, sym}
 use borrow.Author.Tests.{eq-eqb, ne-eqb}
-use Rattle.inquiry_checks.specs.Asked.{page}
+use Rattle.inquiry_asked.specs.Asked.{page}
 use borrow.Author.Needs.{needs}
 use Rattle.inquiry_pages.proofs.serve_page.Statement.{statement}
 use Rattle.inquiry_pages.proofs.serve_page.Tie as tie

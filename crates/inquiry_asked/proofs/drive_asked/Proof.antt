@@ -1,8 +1,8 @@
 -- `drive_asked`: each way by its tests.
 use mathlib.Core.Path.{_∙_, sym}
 use borrow.Author.Needs.{needs}
-use Rattle.inquiry_checks.proofs.drive_asked.Statement.{statement}
-use Rattle.inquiry_checks.proofs.drive_asked.Tie as tie
+use Rattle.inquiry_asked.proofs.drive_asked.Statement.{statement}
+use Rattle.inquiry_asked.proofs.drive_asked.Tie as tie
 
 returns : tie.Need-returns
 returns c = simp (c .if1 .taken)

@@ -2,8 +2,8 @@
 use mathlib.Core.Path.{_∙_, sym}
 use borrow.Author.Tests.{eq-eqb, ne-eqb, not-true, not-false}
 use borrow.Author.Needs.{needs}
-use Rattle.inquiry_checks.proofs.passes_through.Statement.{statement}
-use Rattle.inquiry_checks.proofs.passes_through.Tie as tie
+use Rattle.inquiry_asked.proofs.passes_through.Statement.{statement}
+use Rattle.inquiry_asked.proofs.passes_through.Tie as tie
 
 returns : tie.Need-returns
 returns c = rw (not-true (c .before .before .args .packet) (c .if1 .taken))

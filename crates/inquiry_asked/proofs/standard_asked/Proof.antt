@@ -1,7 +1,7 @@
 -- `standard_asked`: each way by its tests.
 use borrow.Author.Needs.{needs}
-use Rattle.inquiry_checks.proofs.standard_asked.Statement.{statement}
-use Rattle.inquiry_checks.proofs.standard_asked.Tie as tie
+use Rattle.inquiry_asked.proofs.standard_asked.Statement.{statement}
+use Rattle.inquiry_asked.proofs.standard_asked.Tie as tie
 
 returns : tie.Need-returns
 returns c = simp (c .if1 .taken)

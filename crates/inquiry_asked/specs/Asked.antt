@@ -8,7 +8,7 @@ use Rattle.page83.specs.Page83.{page83}
 use Rattle.pages.specs.Page.{standard, page00, page80, page89}
 use Rattle.packet.specs.Packet.{page00 as packetPage00}
 use Rattle.inquiry_fields.specs.Fields.{evpd, pageCode, allocation}
-use Rattle.inquiry_checks.specs.Request.{Request, isPacket}
+use Rattle.inquiry_asked.specs.Request.{Request, isPacket}
 
 -- The page, whole. Without EVPD that is standard data; a packet drive's is never made here.
 unfoldable pub page : Request → List ℕ

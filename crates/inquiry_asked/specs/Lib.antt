@@ -1,0 +1,4 @@
+-- What an INQUIRY asks for.
+pub mod Request
+pub mod Asked
+pub mod Helpers
