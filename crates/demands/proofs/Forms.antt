@@ -9,7 +9,8 @@ use lib.ListN.{length}
 use borrow.Author.Tests.{eqb-true, eqb-false}
 use Rattle.rules.proofs.First.{silent}
 use Rattle.room.specs.Room.{written}
-use Rattle.sense.specs.Sense.{Told, registers as showing, isFixed, fixedSense, descriptorSense, senseData}
+use Rattle.sense_fixed.specs.Fixed.{fixedSense}
+use Rattle.sense.specs.Sense.{Told, registers as showing, isFixed, descriptorSense, senseData}
 use Rattle.refusals.specs.Refusal.{rowOf, refusedSense, good, busy, noStatus, checkCondition}
 use Rattle.refusals.specs.Helpers.{Roomy}
 use Rattle.refusals.proofs.Table.{roomy-unless}

@@ -13,7 +13,8 @@ use Rattle.rules.specs.Bits.{flag}
 use Rattle.room.specs.Room.{written}
 use Rattle.texts.specs.Text.{turned, spaced}
 use Rattle.checksum.specs.Checksum.{sumOf, damagedBy, damaged}
-use Rattle.sense.specs.Sense.{Told, isFixed, fixedSense, descriptorSense, unstated, fixed, descriptor, senseData}
+use Rattle.sense_fixed.specs.Fixed.{fixedSense}
+use Rattle.sense.specs.Sense.{Told, isFixed, descriptorSense, unstated, fixed, descriptor, senseData}
 use Rattle.refusals.specs.Refusal.{noStatus, checkCondition}
 use Rattle.sense.specs.Carried.{sensed, inFixed, inDescriptor}
 use Rattle.identify.specs.Block.{serial, model, name}

@@ -10,7 +10,8 @@ use lib.Seq.{getD-take}
 use Rattle.rules.specs.Bits.{bit, flag}
 use Rattle.room.specs.Room.{written}
 use Rattle.room.proofs.Laws.{front}
-use Rattle.sense.specs.Sense.{Told, nothing, registers, upper, nonzero, isFixed, fixedSense, descriptorSense, senseData}
+use Rattle.sense_fixed.specs.Fixed.{nonzero, fixedSense}
+use Rattle.sense.specs.Sense.{Told, nothing, registers, upper, isFixed, descriptorSense, senseData}
 use Rattle.sense.specs.Carried.{Carried, sensed, inFixed, inDescriptor}
 
 -- Three bits of a byte, each read alone.

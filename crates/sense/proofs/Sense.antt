@@ -4,7 +4,8 @@ use mathlib.Core.Bool.{Bool, true, false, cond}
 use mathlib.Core.List.{List}
 use Prim.Native.Nat.{ℕ, _≤_}
 use lib.ListN.{length}
-use Rattle.sense.specs.Sense.{isFixed, fixedSense, descriptorSense, senseData, nothing}
+use Rattle.sense_fixed.specs.Fixed.{fixedSense}
+use Rattle.sense.specs.Sense.{isFixed, descriptorSense, senseData, nothing}
 
 -- "8 or 18 sense bytes by form"
 pub length-code : (form key asc ascq : ℕ) → length (senseData form key asc ascq nothing) ≡ cond (isFixed form) 18 8

@@ -1,7 +1,5 @@
 // Sense: the sense data that a refusal or an ended order leaves, in the form that the caller asks for. The rules stand in specs/: Sense
-// (the bytes of both forms) and Carried (what is read out of either).
-mod fixed;
-
+// (which form, and the bytes of the descriptor form; those of the fixed one are sense_fixed's) and Carried (what is read out of either).
 ghost use mathlib.Core.Path.{_≡_};
 ghost use mathlib.Core.Bool.{Bool, true, false};
 ghost use mathlib.Core.List.{List};
@@ -39,7 +37,7 @@ pub fn put_code(sense: &mut [u8], form: u8, key: u8, asc: u8, ascq: u8)
     ensures { λ _. ⌜ Wrote (now (sense .entry)) 0 (senseData form key asc ascq nothing) (now (sense .exit)) ⌝ }
 {
     if is_fixed(form) {
-        fixed::code(sense, key, asc, ascq);
+        sense_fixed::code(sense, key, asc, ascq);
         return;
     }
     put_descriptor_code(sense, key, asc, ascq);
@@ -110,7 +108,7 @@ pub fn report(
     // Taken here, before a byte is stored, the compiler hands on where they stand and not the slice.
     let registers = &registers[..11];
     if is_fixed(form) {
-        fixed::report(sense, key, asc, ascq, extend, registers);
+        sense_fixed::report(sense, key, asc, ascq, extend, registers);
         return;
     }
     report_descriptor(sense, key, asc, ascq, extend, registers);

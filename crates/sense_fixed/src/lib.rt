@@ -1,14 +1,16 @@
-// The fixed form of sense data: 18 bytes, with the registers that are told in places of their own.
+// The fixed form of sense data: 18 bytes, with the registers that are told in places of their own. The rules stand in specs/: Fixed, and
+// Told (what stands beside key, ASC and ASCQ, in either form).
 ghost use mathlib.Core.Path.{_≡_};
 ghost use mathlib.Core.List.{List};
 ghost use Prim.Native.Nat.{_≤_};
 ghost use lib.ListN.{length};
 ghost use Rattle.room.specs.Room.{Wrote};
-ghost use Rattle.sense.specs.Sense.{fixedSense, nothing, registers as told, upperBits, nonzero as Sense·nonzero};
+ghost use Rattle.sense_fixed.specs.Told.{nothing, registers as told};
+ghost use Rattle.sense_fixed.specs.Fixed.{fixedSense, upperBits, nonzero as Fixed·nonzero};
 
 // Whether an upper register byte is not zero, where EXTEND shows it.
 fn nonzero(extend: bool, byte: u8) -> bool
-    ensures { λ r. ⌜ r ≡ Sense·nonzero extend byte ⌝ }
+    ensures { λ r. ⌜ r ≡ Fixed·nonzero extend byte ⌝ }
 {
     extend & (byte != 0)
 }

@@ -5,8 +5,8 @@ use Prim.Native.Nat.{ℕ, _≤_}
 use native.Mathlib.Omega.{arith}
 use Rattle.rules.specs.Bits.{flag}
 use borrow.Author.Needs.{needs}
-use Rattle.sense.proofs.fixed.upper_bits.Statement.{statement}
-use Rattle.sense.proofs.fixed.upper_bits.Tie as tie
+use Rattle.sense_fixed.proofs.upper_bits.Statement.{statement}
+use Rattle.sense_fixed.proofs.upper_bits.Tie as tie
 
 small : (set : Bool) {n : ℕ} → n ≡ flag set → n ≤ 1
 small true e = omega (arith, e)

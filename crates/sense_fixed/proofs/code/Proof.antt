@@ -1,8 +1,8 @@
--- `fixed::code`: the bytes are the definition's.
-use Rattle.sense.specs.Sense.{fixedSense}
+-- `code`: the bytes are the definition's.
+use Rattle.sense_fixed.specs.Fixed.{fixedSense}
 use borrow.Author.Needs.{needs}
-use Rattle.sense.proofs.fixed.code.Statement.{statement}
-use Rattle.sense.proofs.fixed.code.Tie as tie
+use Rattle.sense_fixed.proofs.code.Statement.{statement}
+use Rattle.sense_fixed.proofs.code.Tie as tie
 
 slice-aggregate-copy : tie.Need-slice-aggregate-copy
 slice-aggregate-copy c = search needs

@@ -1,10 +1,10 @@
--- `fixed::report`: the definition's bytes, side by side.
+-- `report`: the definition's bytes, side by side.
 use mathlib.Core.Path.{refl}
 use Rattle.room.proofs.Laws.{beside}
-use Rattle.sense.specs.Sense.{fixedSense}
+use Rattle.sense_fixed.specs.Fixed.{fixedSense}
 use borrow.Author.Needs.{needs}
-use Rattle.sense.proofs.fixed.report.Statement.{statement}
-use Rattle.sense.proofs.fixed.report.Tie as tie
+use Rattle.sense_fixed.proofs.report.Statement.{statement}
+use Rattle.sense_fixed.proofs.report.Tie as tie
 
 shared-slice-read-store-four : tie.Need-shared-slice-read-store-four
 shared-slice-read-store-four c = search needs
