@@ -2,9 +2,9 @@
 use mathlib.Core.Path.{_∙_, sym}
 use borrow.Author.Tests.{eq-eqb, ne-eqb, not-true, not-false}
 use borrow.Author.Needs.{needs}
-use Rattle.health.specs.Said.{heardIn}
-use Rattle.health.proofs.heard.Statement.{statement}
-use Rattle.health.proofs.heard.Tie as tie
+use Rattle.health_asked.specs.Said.{heardIn}
+use Rattle.health_asked.proofs.heard.Statement.{statement}
+use Rattle.health_asked.proofs.heard.Tie as tie
 
 has-registers-requires : tie.Need-has-registers-requires
 has-registers-requires c κs = search needs

@@ -1,10 +1,10 @@
 -- `ask`: by whether the board refused the command.
 use borrow.Author.Tests.{eq-eqb, ne-eqb}
 use borrow.Author.Needs.{needs}
-use Rattle.health.specs.Asked.{asked}
-use Rattle.health.proofs.Answers.{as-promised}
-use Rattle.health.proofs.ask.Statement.{statement}
-use Rattle.health.proofs.ask.Tie as tie
+use Rattle.health_asked.specs.Asked.{asked}
+use Rattle.health_asked.proofs.Answers.{as-promised}
+use Rattle.health_asked.proofs.ask.Statement.{statement}
+use Rattle.health_asked.proofs.ask.Tie as tie
 
 return-status-requires : tie.Need-return-status-requires
 return-status-requires c κs = search needs

@@ -6,8 +6,8 @@ use lib.Dec.{eqb}
 use lib.ListN.{getD}
 use Rattle.refusals.specs.Refusal.{rowOf, checkCondition}
 use Rattle.passthrough_end.specs.End.{failed}
-use Rattle.health.specs.declared.Said.{Said}
-use Rattle.health.specs.declared.Said.the-variants.{Healthy, Failing, Unknown, Error, Refused}
+use Rattle.health_asked.specs.declared.Said.{Said}
+use Rattle.health_asked.specs.declared.Said.the-variants.{Healthy, Failing, Unknown, Error, Refused}
 
 -- The board's answer to the command: the number of its refusal or 0, the status, the sense key, and the drive's error register
 -- where the drive reports an error, else 0.

@@ -10,10 +10,10 @@ use Rattle.passthrough.specs.Submit as Submit
 use Rattle.passthrough.specs.Submit.{submit}
 use Rattle.passthrough.specs.Complete as Complete
 use Rattle.passthrough.specs.Complete.{complete}
-use Rattle.health.specs.declared.Asked.{Asked}
-use Rattle.health.specs.declared.Said.{Said}
-use Rattle.health.specs.declared.Said.the-variants.{Refused}
-use Rattle.health.specs.Said.{Values, values, heardIn}
+use Rattle.health_asked.specs.declared.Asked.{Asked}
+use Rattle.health_asked.specs.declared.Said.{Said}
+use Rattle.health_asked.specs.declared.Said.the-variants.{Refused}
+use Rattle.health_asked.specs.Said.{Values, values, heardIn}
 
 -- ATA PASS-THROUGH (16), non-data, with CK_COND one: features DAh, LBA mid 4Fh, LBA high C2h, device A0h, command B0h.
 abbrev pub returnStatus : List ℕ

@@ -1,9 +1,9 @@
 -- `end`: by whether the board refused to complete.
 use borrow.Author.Tests.{eq-eqb, ne-eqb}
 use borrow.Author.Needs.{needs}
-use Rattle.health.specs.Asked.{ended}
-use Rattle.health.proofs.end.Statement.{statement}
-use Rattle.health.proofs.end.Tie as tie
+use Rattle.health_asked.specs.Asked.{ended}
+use Rattle.health_asked.proofs.end.Statement.{statement}
+use Rattle.health_asked.proofs.end.Tie as tie
 
 slice-aggregate-complete : tie.Need-slice-aggregate-complete
 slice-aggregate-complete c = search needs

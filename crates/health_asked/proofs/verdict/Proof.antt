@@ -1,7 +1,7 @@
 -- `verdict`: by the tests of both bytes.
-use Rattle.health.specs.Said.{verdictOf}
-use Rattle.health.proofs.verdict.Statement.{statement}
-use Rattle.health.proofs.verdict.Tie as tie
+use Rattle.health_asked.specs.Said.{verdictOf}
+use Rattle.health_asked.proofs.verdict.Statement.{statement}
+use Rattle.health_asked.proofs.verdict.Tie as tie
 
 returns : tie.Need-returns
 unfolding verdictOf

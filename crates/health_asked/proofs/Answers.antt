@@ -19,10 +19,10 @@ use Rattle.passthrough.specs.Complete as Complete
 use Rattle.passthrough_end.specs.End.{failed}
 use Rattle.passthrough.specs.Complete.{complete}
 use Rattle.passthrough.specs.Record.{empty, holding}
-use Rattle.health.specs.declared.Asked.{Asked}
-use Rattle.health.specs.declared.Said.the-variants.{Healthy, Failing, Unknown, Error, Refused}
-use Rattle.health.specs.Said.{values, valuesOf, verdictOf, heardIn, saidIn}
-use Rattle.health.specs.Asked.{returnStatus, noSense, answer, ended, asked, told, givenAtEnd, given}
+use Rattle.health_asked.specs.declared.Asked.{Asked}
+use Rattle.health_asked.specs.declared.Said.the-variants.{Healthy, Failing, Unknown, Error, Refused}
+use Rattle.health_asked.specs.Said.{values, valuesOf, verdictOf, heardIn, saidIn}
+use Rattle.health_asked.specs.Asked.{returnStatus, noSense, answer, ended, asked, told, givenAtEnd, given}
 
 -- Whatever the registers say, the command that gave them ended without an error.
 verdict-values : (mid high : ℕ) → valuesOf (verdictOf mid high) ≡ values 0 checkCondition 0x01 0x00

@@ -1,2 +1,0 @@
--- What the logger's answers stand for.
-pub mod Answers

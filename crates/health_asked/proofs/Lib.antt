@@ -1,0 +1,2 @@
+-- What a drive's answers stand for.
+pub mod Answers
