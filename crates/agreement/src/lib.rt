@@ -1,6 +1,9 @@
 // Agreement: how far a run of bytes, from a place on, agrees with a piece that could stand there: with bytes as they stand, or with a
 // text that would be written turned. Nothing is written to be compared. A piece that stands there whole is found four bytes at a time,
-// each four compared as one; any other is compared byte by byte. The rule stands in specs/Agreed.
+// each four compared as one; any other is compared byte by byte. A run that agrees with a page to the end of both is that page. The rule
+// stands in specs/Agreed.
+pub mod beside;
+
 ghost use mathlib.Core.Path.{_≡_};
 ghost use mathlib.Core.Bool.{Bool};
 ghost use mathlib.Core.List.{List, map};
@@ -10,6 +13,12 @@ ghost use Rattle.texts.specs.Text.{turned};
 ghost use Rattle.texts.specs.Helpers.{shown};
 ghost use Rattle.agreement.specs.Agreed.{agreed};
 ghost use Rattle.agreement.specs.Helpers.{whole, four as Helpers·four};
+
+// A run beside a page: whether they are the same, and the place up to which they agree.
+pub struct Held {
+    pub same: bool,
+    pub place: usize,
+}
 
 // Whether these four bytes stand at a place. All are looked at, and so they are compared as one number.
 fn four(run: &[u8], at: usize, a: u8, b: u8, c: u8, d: u8) -> bool

@@ -23,11 +23,11 @@ use Rattle.capture.proofs.LaidOut.{laid-fields, laid-page, laid-holds, holds-la
 use Rattle.capture.proofs.Laws.{length-information}
 use Rattle.agreement.specs.Agreed.{agreed}
 use Rattle.agreement.proofs.Laws.{agree-to, agrees, differ-there}
+use Rattle.checker_drive.specs.Ports.{claimedPorts, claimedAddress, claimedPage}
+use Rattle.checker_drive.proofs.Furthest.{claimed-address, furthest, own-page-claimed}
 use Rattle.checker.specs.declared.Checked.{Checked}
-use Rattle.checker.specs.Ports.{claimedPorts, claimedAddress, claimedPage}
 use Rattle.checker.specs.Check.{textsOf, signatureOf, blockOf, ours, expected, accepted, differs, refused, judged, check}
 use Rattle.checker.specs.Judged.{Choice, Written, DifferAt, Furthest, Judgeable, all, Acceptable, AtFault, OfAPacketDrive, OfADamagedBlock}
-use Rattle.checker.proofs.Furthest.{claimed-address, furthest, own-page-claimed}
 use Rattle.checker.proofs.Judging.{fault, broken, packet-drives, damaged-block, in-order}
 
 -- How far two runs agree is where they differ.

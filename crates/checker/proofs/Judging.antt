@@ -12,10 +12,11 @@ use Rattle.checksum.specs.Checksum.{damaged}
 use Rattle.packet.specs.Packet.{packetDrive}
 use Rattle.capture.specs.Capture.{Field, field, others, told, content, stands, taken, fields, fieldsOf, information, holds, end}
 use Rattle.capture.proofs.Laws.{all-there, turn-stands, turn-lacks, no-turn}
+use Rattle.agreement.specs.declared.Held.{Held}
 use Rattle.agreement.specs.Agreed.{agreed}
-use Rattle.checker.specs.declared.Held.{Held}
+use Rattle.agreement.specs.Helpers.{beside}
 use Rattle.checker.specs.Check.{signatureOf, blockOf, expected, accepted, differs, refused, judged, refusalOf, check}
-use Rattle.checker.specs.Helpers.{beside, frontBeside}
+use Rattle.checker.specs.Helpers.{frontBeside}
 
 -- A field that is what it is to be is passed over; another answers.
 module _ (information : List ℕ) (f : Field) (fs : List Field) where

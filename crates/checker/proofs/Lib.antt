@@ -1,5 +1,4 @@
 -- The laws of the check, for the crates above.
 pub mod Laws
 pub mod Judging
-pub mod Furthest
 pub mod Judged

@@ -13,8 +13,8 @@ use Rattle.pages.specs.Page.{standard, page00, page80, page89}
 use Rattle.packet.specs.Packet.{packetDrive}
 use Rattle.capture.specs.Capture.{Field, information, fieldsOf, holds, end}
 use Rattle.agreement.specs.Agreed.{agreed}
+use Rattle.checker_drive.specs.Ports.{claimedPorts, claimedAddress}
 use Rattle.checker.specs.declared.Checked.{Checked}
-use Rattle.checker.specs.Ports.{claimedPorts, claimedAddress}
 
 -- What page 89h tells: the translator's texts, the signature and the block.
 abbrev pub textsOf : List ℕ → List ℕ

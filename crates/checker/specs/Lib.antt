@@ -1,5 +1,4 @@
 -- The check of another maker's bridge.
-pub mod Ports
 pub mod Check
 pub mod Judged
 pub mod Helpers

@@ -1,8 +1,9 @@
 // Checker: another maker's bridge, by a capture of what it answers: each field beside what our writers give for the block, texts and
-// signature that its own page 89h tells. Nothing is written to be compared. The rules stand in specs/: Check and Ports.
-mod named;
+// signature that its own page 89h tells. Nothing is written to be compared. The rules stand in specs/Check, and for page 83h in
+// checker_drive/specs/Ports.
 mod plain;
 
+use agreement::Held;
 ghost use mathlib.Core.Path.{_≡_};
 ghost use mathlib.Core.Bool.{Bool, true};
 ghost use mathlib.Core.List.{List, [], _∷_};
@@ -18,12 +19,6 @@ pub struct Checked {
     pub number: u8,
     pub accepted: u8,
     pub tag: u8,
-    pub place: usize,
-}
-
-// A field beside a page: whether they are the same, and the place up to which they agree.
-pub struct Held {
-    pub same: bool,
     pub place: usize,
 }
 
@@ -125,7 +120,7 @@ fn front_83(rest: &[u8], information: &[u8]) -> Held
     ensures { λ r. ⌜ r ≡ frontBeside (now (information .entry)) 0x83 (now (rest .entry)) ⌝ }
 {
     if capture::stands(rest, 0x83) {
-        return named::names(capture::content(rest), block(information));
+        return checker_drive::names(capture::content(rest), block(information));
     }
     absent()
 }

@@ -1,30 +1,20 @@
 // The fields that our writers give in one way: standard data and pages 00h, 80h and 89h, piece by piece.
-use crate::Held;
+use agreement::Held;
+use agreement::beside;
 ghost use mathlib.Core.Path.{_≡_};
-ghost use mathlib.Core.Bool.{Bool, false, _&&_};
+ghost use mathlib.Core.Bool.{Bool, false};
 ghost use mathlib.Core.List.{List};
-ghost use lib.Dec.{eqb};
 ghost use lib.ListN.{length};
 ghost use Rattle.pages.specs.Page.{standard as Page·standard, page00, page80, page89};
 ghost use Rattle.agreement.specs.Agreed.{agreed};
+ghost use Rattle.agreement.specs.Helpers.{beside};
 ghost use Rattle.checker.specs.Check.{textsOf, signatureOf, blockOf};
-ghost use Rattle.checker.specs.Helpers.{beside};
-
-// A field of a size that agrees up to a place with a page: they are the same where both end there.
-pub fn held(size: usize, place: usize, page: usize) -> Held
-    ensures { λ r. ⌜ r ≡ record { same = eqb place page && eqb size page; place = place } ⌝ }
-{
-    Held {
-        same: (place == page) & (size == page),
-        place,
-    }
-}
 
 // 00h.
 pub fn supported(bytes: &[u8]) -> Held
     ensures { λ r. ⌜ r ≡ beside (now (bytes .entry)) page00 ⌝ }
 {
-    held(
+    beside::held(
         bytes.len(),
         agreement::bytes(bytes, 0, &pages::SUPPORTED),
         8,
@@ -58,7 +48,7 @@ pub fn standard(bytes: &[u8], block: &[u8]) -> Held
     requires { ⌜ length (now block) ≡ 512 ⌝ }
     ensures { λ r. ⌜ r ≡ beside (now (bytes .entry)) (Page·standard (now (block .entry))) ⌝ }
 {
-    held(
+    beside::held(
         bytes.len(),
         standard_place(bytes, block),
         pages::STANDARD_SIZE,
@@ -82,7 +72,7 @@ pub fn serial(bytes: &[u8], block: &[u8]) -> Held
     requires { ⌜ length (now block) ≡ 512 ⌝ }
     ensures { λ r. ⌜ r ≡ beside (now (bytes .entry)) (page80 (now (block .entry))) ⌝ }
 {
-    held(bytes.len(), serial_place(bytes, block), pages::SERIAL_SIZE)
+    beside::held(bytes.len(), serial_place(bytes, block), pages::SERIAL_SIZE)
 }
 
 // Up to where page 89h agrees with the one of its own texts, signature and block: only the head and the command code can differ.
@@ -108,5 +98,5 @@ pub fn information(page: &[u8]) -> Held
     requires { ⌜ length (now page) ≡ 572 ⌝ }
     ensures { λ r. ⌜ r ≡ beside (now (page .entry)) (page89 false (textsOf (now (page .entry))) (signatureOf (now (page .entry))) (blockOf (now (page .entry)))) ⌝ }
 {
-    held(page.len(), information_place(page), 572)
+    beside::held(page.len(), information_place(page), 572)
 }

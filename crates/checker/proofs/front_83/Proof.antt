@@ -1,6 +1,6 @@
 -- `front_83`: the field, or none.
 use mathlib.Core.Path.{sym, _∙_}
-use Rattle.checker.specs.Ports.{claimedPage}
+use Rattle.checker_drive.specs.Ports.{claimedPage}
 use Rattle.checker.specs.Check.{ours, expected}
 use Rattle.checker.specs.Helpers.{frontBeside}
 use borrow.Author.Needs.{needs}

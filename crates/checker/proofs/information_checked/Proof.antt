@@ -2,9 +2,9 @@
 use mathlib.Core.Path.{sym, _∙_, ap}
 use mathlib.Core.List.{[]}
 use Rattle.capture.specs.Capture.{field}
-use Rattle.checker.specs.declared.Held.{Held}
+use Rattle.agreement.specs.declared.Held.{Held}
+use Rattle.agreement.specs.Helpers.{beside}
 use Rattle.checker.specs.Check.{ours, expected, judged}
-use Rattle.checker.specs.Helpers.{beside}
 use Rattle.checker.proofs.Judging.{passed, fault}
 use borrow.Author.Needs.{needs}
 use Rattle.checker.proofs.information_checked.Statement.{statement}

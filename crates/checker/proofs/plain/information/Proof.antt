@@ -4,8 +4,9 @@ use mathlib.Core.Bool.{false}
 use native.Mathlib.Omega.{arith}
 use lib.ListN.{length}
 use Rattle.pages.specs.Page.{page89}
+use Rattle.agreement.proofs.Same.{held-is}
 use Rattle.checker.specs.Check.{textsOf, signatureOf, blockOf}
-use Rattle.checker.proofs.Laws.{held-is, length-own}
+use Rattle.checker.proofs.Laws.{length-own}
 use borrow.Author.Needs.{needs}
 use Rattle.checker.proofs.plain.information.Statement.{statement}
 use Rattle.checker.proofs.plain.information.Tie as tie

@@ -2,7 +2,7 @@
 use mathlib.Core.Path.{sym, _∙_}
 use Rattle.pages.specs.Page.{page80}
 use Rattle.pages.proofs.Laws.{length-page80}
-use Rattle.checker.proofs.Laws.{held-is}
+use Rattle.agreement.proofs.Same.{held-is}
 use borrow.Author.Needs.{needs}
 use Rattle.checker.proofs.plain.serial.Statement.{statement}
 use Rattle.checker.proofs.plain.serial.Tie as tie

@@ -2,7 +2,7 @@
 use mathlib.Core.Path.{sym, _∙_}
 use Rattle.pages.specs.Page.{standard}
 use Rattle.pages.proofs.Laws.{length-standard}
-use Rattle.checker.proofs.Laws.{held-is}
+use Rattle.agreement.proofs.Same.{held-is}
 use borrow.Author.Needs.{needs}
 use Rattle.checker.proofs.plain.standard.Statement.{statement}
 use Rattle.checker.proofs.plain.standard.Tie as tie

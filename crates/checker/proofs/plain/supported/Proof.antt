@@ -2,7 +2,7 @@
 use mathlib.Core.Path.{refl, _∙_}
 use native.Mathlib.Omega.{arith}
 use Rattle.pages.specs.Page.{page00}
-use Rattle.checker.proofs.Laws.{held-is}
+use Rattle.agreement.proofs.Same.{held-is}
 use borrow.Author.Needs.{needs}
 use Rattle.checker.proofs.plain.supported.Statement.{statement}
 use Rattle.checker.proofs.plain.supported.Tie as tie

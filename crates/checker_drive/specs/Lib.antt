@@ -1,0 +1,2 @@
+-- The ports that a page 83h tells.
+pub mod Ports
