@@ -1,11 +1,11 @@
 // Build: the host tool. Each line of the input names an order, as words `field=value`; for each it prints the bytes of the command that
 // makes the order, as `sg_raw` takes them, or `refused 23` where none does. A line that is no order is told on standard error, with its
 // number. What a line comes to is proved in `order_shown`; reading the lines, and writing what they come to, no contract can say.
-use input::Wanted;
 use input::parts::Source;
 use libc::STDERR_FILENO;
 use libc::STDOUT_FILENO;
 use order_words::words;
+use program_words::Wanted;
 ghost use mathlib.Core.Path.{_≡_};
 ghost use Prim.Native.Nat.{_≤_};
 ghost use lib.ListN.{length};

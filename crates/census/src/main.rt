@@ -1,11 +1,11 @@
 // Census: counts the IDENTIFY blocks of 512 bytes that it is given, as many as 65,535, by name form, highest Ultra DMA mode and highest
 // major version. The input goes through an intake, part by part as reads bring it. Damaged blocks are left out and counted apart. More
 // blocks than a census takes are `refused 17`, a last block that is not whole is `refused 1`; then nothing else is printed.
-use input::Wanted;
 use input::parts::Source;
 use intake::Intake;
 use libc::STDERR_FILENO;
 use libc::STDOUT_FILENO;
+use program_words::Wanted;
 use tally::Census;
 ghost use mathlib.Core.Path.{_≡_};
 ghost use Prim.Native.Nat.{_≤_, _<_};

@@ -1,10 +1,10 @@
 // Feed: an IDENTIFY block off the wire. The input is runs, each of two length bytes, high byte first, and that many bytes. They
 // go into an intake one after another; then come three lines: in which run the intake was complete and after how many bytes of it,
 // how many bytes it used in all, and the name that the block's page 83h tells, or that the block is damaged.
-use input::Wanted;
 use intake::Intake;
 use libc::STDERR_FILENO;
 use libc::STDOUT_FILENO;
+use program_words::Wanted;
 ghost use Prim.Native.Nat.{_+_, _≤_};
 ghost use lib.ListN.{length};
 

@@ -2,10 +2,10 @@
 // RETURN STATUS, it sends that command through the board, reads the sense data that come back, and prints a line with the
 // drive's place and what it said. How a drive is asked, and what each answer stands for, is in health_asked.
 use health_asked::Said;
-use input::Wanted;
 use libc::STDERR_FILENO;
 use libc::STDOUT_FILENO;
 use passthrough::Pending;
+use program_words::Wanted;
 ghost use Prim.Native.Nat.{_+_, _*_, _≤_};
 ghost use mathlib.Core.Path.{_≡_};
 ghost use lib.ListN.{length};

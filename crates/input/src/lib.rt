@@ -1,43 +1,20 @@
 // Input: what the words behind a program's name ask for, and the bytes that it is given: those of the files that the words name, one
-// file behind the other, or of standard input where there is no word. All of it at once is `take`; part by part is in parts.
+// file behind the other, or of standard input where there is no word. All of it at once is `take`; part by part is in parts. What one word
+// asks for is in `program_words`.
 pub mod parts;
 
 use libc::STDERR_FILENO;
 use libc::STDIN_FILENO;
+use program_words::Wanted;
 ghost use Prim.Native.Nat.{_≤_};
 ghost use mathlib.Core.Path.{_≡_};
 ghost use lib.ListN.{length, take};
 ghost use Rattle.io.specs.Counts.{Counts};
-ghost use Rattle.input.specs.Words.{wantedBy};
-
-// What the words ask for. Complained stands for words that ask for nothing that can be done, once that has been said.
-pub enum Wanted {
-    Read,
-    Help,
-    Version,
-    Complained,
-}
 
 // What is wanted, and how many bytes came.
 pub struct Got {
     pub wanted: Wanted,
     pub count: usize,
-}
-
-// What a word asks for.
-pub fn word_wants(word: &[u8]) -> Wanted
-    ensures { λ r. ⌜ r ≡ wantedBy (now (word .entry)) ⌝ }
-{
-    if identify::same_bytes(word, b"--help") {
-        return Wanted::Help;
-    }
-    if identify::same_bytes(word, b"--version") {
-        return Wanted::Version;
-    }
-    if rules::byte(word, 0) == b'-' {
-        return Wanted::Complained;
-    }
-    Wanted::Read
 }
 
 // Whether word i names a file. One that is too long for a file's name does not.
@@ -47,7 +24,7 @@ fn names_file(i: usize) -> bool {
     if os::errno() != 0 {
         return false;
     }
-    match word_wants(&word[..n]) {
+    match program_words::word_wants(&word[..n]) {
         Wanted::Read => true,
         Wanted::Help => false,
         Wanted::Version => false,
@@ -92,7 +69,7 @@ fn option(program: &[u8], i: usize) -> Wanted {
         io::write_all(STDERR_FILENO, b"\n");
         return Wanted::Complained;
     }
-    let wanted = word_wants(&word[..n]);
+    let wanted = program_words::word_wants(&word[..n]);
     if let Wanted::Complained = wanted {
         complain_of_option(program, &word[..n]);
     }

@@ -1,7 +1,7 @@
 // Parts: a program's input part by part, as reads bring it, for input of any size: the files that the words name, one behind the
 // other, or standard input where there is no word.
-use crate::Wanted;
 use libc::STDIN_FILENO;
+use program_words::Wanted;
 ghost use mathlib.Core.Path.{_≡_};
 ghost use Rattle.io.specs.Counts.{Counts};
 

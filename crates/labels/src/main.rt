@@ -1,9 +1,9 @@
 // Labels: for each IDENTIFY block of 512 bytes that it is given a line with its place, its model, serial number and firmware as the
 // board shows texts, its world wide name, and its drive's row in the roll, which is the row that `rollcall` prints. Of a damaged block,
 // which is not used, it says so; the roll is then that of the others.
-use input::Wanted;
 use libc::STDERR_FILENO;
 use libc::STDOUT_FILENO;
+use program_words::Wanted;
 ghost use mathlib.Core.Path.{_≡_};
 ghost use Prim.Native.Nat.{_+_, _%_, _≤_};
 ghost use lib.ListN.{length};

@@ -2,9 +2,9 @@
 // many drives there are; then comes a line for each block with its place from 0, its row, and what tells its drive: `wwn`
 // where the block carries a world wide name, `text` where model and serial number do. Input that is no roll is `refused 1`, and a roll
 // with a damaged block `refused 18`.
-use input::Wanted;
 use libc::STDERR_FILENO;
 use libc::STDOUT_FILENO;
+use program_words::Wanted;
 ghost use Prim.Native.Nat.{_+_, _*_, _≤_};
 ghost use mathlib.Core.Path.{_≡_};
 ghost use lib.ListN.{length};

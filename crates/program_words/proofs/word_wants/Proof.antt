@@ -2,9 +2,9 @@
 use mathlib.Core.Path.{_∙_, sym}
 use borrow.Author.Tests.{eq-eqb, ne-eqb}
 use borrow.Author.Needs.{needs}
-use Rattle.input.specs.Words.{wantedBy}
-use Rattle.input.proofs.word_wants.Statement.{statement}
-use Rattle.input.proofs.word_wants.Tie as tie
+use Rattle.program_words.specs.Words.{wantedBy}
+use Rattle.program_words.proofs.word_wants.Statement.{statement}
+use Rattle.program_words.proofs.word_wants.Tie as tie
 
 slice-aggregate-same-bytes : tie.Need-slice-aggregate-same-bytes
 slice-aggregate-same-bytes c = search needs

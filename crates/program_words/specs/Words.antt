@@ -5,8 +5,8 @@ use Prim.Native.Nat.{ℕ}
 use lib.Dec.{eqb}
 use lib.ListN.{getD}
 use Rattle.identify.specs.Bytes.{equal}
-use Rattle.input.specs.declared.Wanted.{Wanted}
-use Rattle.input.specs.declared.Wanted.the-variants.{Read, Help, Version, Complained}
+use Rattle.program_words.specs.declared.Wanted.{Wanted}
+use Rattle.program_words.specs.declared.Wanted.the-variants.{Read, Help, Version, Complained}
 
 abbrev pub hyphen : ℕ
 hyphen = 0x2D
