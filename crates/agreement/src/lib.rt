@@ -2,6 +2,8 @@
 // text that would be written turned. Nothing is written to be compared. A piece that stands there whole is found four bytes at a time,
 // each four compared as one; any other is compared byte by byte. A run that agrees with a page to the end of both is that page. The rule
 // stands in specs/Agreed.
+#![tactic(auto)]
+
 pub mod beside;
 
 ghost use Rattle.std.specs.Prelude.{◌≡◌, Bool, List, map, ◌+◌, ◌%◌, ◌≤◌, length, drop};
@@ -11,7 +13,7 @@ ghost use Rattle.agreement.specs.Agreed.{agreed};
 ghost use Rattle.agreement.specs.Helpers.{whole, four as Helpers·four};
 
 // A run beside a page: whether they are the same, and the place up to which they agree.
-#[derive(Drop)]
+#[derive(Clone, Copy)]
 pub struct Held {
     pub same: bool,
     pub place: usize,

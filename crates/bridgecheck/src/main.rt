@@ -1,6 +1,8 @@
 // Bridgecheck: says what the board makes of a capture of another maker's bridge. One line: `accepted` where each field is what the board
 // would have written; `differs 83 at 20` with the tag of the first field that is not, and the place in it where it begins to differ;
 // `refused 21 at 7` with the place where the layout is broken; `refused 22` of a packet drive, `refused 18` of a damaged block.
+#![tactic(auto)]
+
 use libc::{STDERR_FILENO, STDOUT_FILENO};
 use program_words::Wanted;
 

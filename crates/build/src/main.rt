@@ -1,6 +1,8 @@
 // Build: the host tool. Each line of the input names an order, as words `field=value`; for each it prints the bytes of the command that
 // makes the order, as `sg_raw` takes them, or `refused 23` where none does. A line that is no order is told on standard error, with its
 // number. What a line comes to is proved in `order_shown`; reading the lines, and writing what they come to, no contract can say.
+#![tactic(auto)]
+
 ghost use Rattle.std.specs.Prelude.{◌≡◌, ◌≤◌, length};
 
 use input::parts::Source;
@@ -82,7 +84,7 @@ fn say_line(number: u64, line: &[u8]) -> bool
 
 // What the input came to so far: the number of the line that is on its way, how many bytes of it there are, and whether they are more than
 // the store takes; and whether all could be written that was said.
-#[derive(Drop)]
+#[derive(Clone, Copy)]
 struct Lines {
     number: u64,
     have: usize,
@@ -163,7 +165,7 @@ fn take_part(lines: Lines, store: &mut [u8], part: &[u8]) -> Lines
 }
 
 // What the input came to, and whether it could be read to its end.
-#[derive(Drop)]
+#[derive(Clone, Copy)]
 struct Read {
     lines: Lines,
     source: Source,

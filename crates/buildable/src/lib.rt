@@ -1,4 +1,6 @@
 // Buildable: whether a command makes an order, and the fields of the one that does. The rules stand in specs/: Fields and Buildable.
+#![tactic(auto)]
+
 pub mod fields;
 
 ghost use Rattle.std.specs.Prelude.{◌≡◌};

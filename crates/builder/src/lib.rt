@@ -1,4 +1,6 @@
 // Builder: the pass-through command that makes an order, or 23 where none does. The rule stands in specs/Builder.
+#![tactic(auto)]
+
 mod packed;
 
 ghost use Rattle.std.specs.Prelude.{◌≡◌, true, ◌++◌, replicate};
@@ -13,7 +15,7 @@ use passthrough_order::Order;
 // What comes back of an order: 0 and the command, whose first `size` bytes, 12 or 16, are to be sent, with zeros behind them; or 23, size
 // 0 and zeros.
 #[repr(C)]
-#[derive(Drop)]
+#[derive(Clone, Copy)]
 pub struct Built {
     pub number: u8,
     pub size: u8,

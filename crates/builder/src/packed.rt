@@ -4,7 +4,7 @@ ghost use Rattle.std.specs.Prelude.{◌≡◌, [], ◌∷◌, ◌+◌, ◌*◌};
 ghost use Rattle.builder.specs.Helpers.{eight_bytes, bytes_of};
 
 // The first eight bytes and the others, each a number whose lowest byte is the first.
-#[derive(Drop)]
+#[derive(Clone, Copy)]
 pub struct Packed {
     pub first: u64,
     pub second: u64,

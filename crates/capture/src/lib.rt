@@ -1,4 +1,6 @@
 // Capture: where the fields of a capture stand, and whether its layout holds. The rules stand in specs/Capture.
+#![tactic(auto)]
+
 ghost use Rattle.std.specs.Prelude.{◌≡◌, Bool, true, List, ◌<◌, ◌≤◌, length};
 ghost use Rattle.capture.specs.Capture.{told as Capture·told, content as Capture·content, stands as Capture·stands, taken as Capture·taken, stands89, place89, holds, layout as Capture·layout, information as Capture·information};
 
@@ -6,7 +8,7 @@ ghost use Rattle.capture.specs.Capture.{told as Capture·told, content as Captur
 pub const OTHERS: [u8; 4] = [0x00, 0x01, 0x80, 0x83];
 
 // Whether the layout holds; the place where the fields end, which is where it is broken if it does not hold.
-#[derive(Drop)]
+#[derive(Clone, Copy)]
 pub struct Laid {
     pub holds: bool,
     pub place: usize,

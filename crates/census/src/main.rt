@@ -1,6 +1,8 @@
 // Census: counts the IDENTIFY blocks of 512 bytes that it is given, as many as 65,535, by name form, highest Ultra DMA mode and highest
 // major version. The input goes through an intake, part by part as reads bring it. Damaged blocks are left out and counted apart. More
 // blocks than a census takes are `refused 17`, a last block that is not whole is `refused 1`; then nothing else is printed.
+#![tactic(auto)]
+
 ghost use Rattle.std.specs.Prelude.{◌≡◌, ◌≤◌, ◌<◌, length};
 ghost use Rattle.io.specs.Counts.{IsPrefixLen};
 
@@ -28,7 +30,7 @@ fn complain(what: &[u8]) {
 
 // What the input came to so far: the census, the intake of the block that is on its way, how many blocks were damaged, and the
 // refusal's number or 0.
-#[derive(Drop)]
+#[derive(Clone, Copy)]
 struct Count {
     census: Census,
     intake: Intake,
@@ -80,7 +82,7 @@ fn with_block(count: Count, block: &[u8]) -> Count
 }
 
 // What a step makes of the count, and how many bytes of its run it used.
-#[derive(Drop)]
+#[derive(Clone, Copy)]
 struct Stepped {
     count: Count,
     used: usize,
@@ -125,7 +127,7 @@ fn take_part(count: Count, store: &mut [u8], part: &[u8]) -> Count
 }
 
 // What the input came to, and whether it could be read to its end.
-#[derive(Drop)]
+#[derive(Clone, Copy)]
 struct Read {
     count: Count,
     source: Source,

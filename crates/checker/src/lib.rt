@@ -1,6 +1,8 @@
 // Checker: another maker's bridge, by a capture of what it answers: each field beside what our writers give for the block, texts and
 // signature that its own page 89h tells. Nothing is written to be compared. The rules stand in specs/Check, and for page 83h in
 // checker_drive/specs/Ports.
+#![tactic(auto)]
+
 mod plain;
 
 ghost use Rattle.std.specs.Prelude.{◌≡◌, Bool, true, List, [], ◌∷◌, length};
@@ -13,7 +15,7 @@ use agreement::Held;
 // What comes back: the refusal's number or 0; 1 where the capture is accepted; the tag of the first field at fault; and the place: of
 // its first differing byte, or that at which the layout is broken.
 #[repr(C)]
-#[derive(Drop)]
+#[derive(Clone, Copy)]
 pub struct Checked {
     pub number: u8,
     pub accepted: u8,

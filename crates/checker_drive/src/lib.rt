@@ -1,4 +1,6 @@
 // Checker, page 83h: that of a capture, beside the page of the block with the ports that it tells itself. The rules stand in specs/Ports.
+#![tactic(auto)]
+
 ghost use Rattle.std.specs.Prelude.{◌≡◌, Bool, List, ◌+◌, ◌≤◌, length, drop};
 ghost use Rattle.identify.specs.Block.{serial, model, name};
 ghost use Rattle.identify.specs.Names.{carries_name};

@@ -1,4 +1,6 @@
 // Checksum: the sum of a block's bytes, and whether it shows the block to be damaged. The rule stands in specs/Checksum.
+#![tactic(auto)]
+
 ghost use Rattle.std.specs.Prelude.{◌≡◌, ◌%◌, List};
 ghost use Rattle.checksum.specs.Checksum.{sum_of, damaged as Checksum·damaged};
 

@@ -1,5 +1,7 @@
 // Classes: what a block is counted as in the census: its highest Ultra DMA mode and its highest major version. The rules stand in
 // specs/Classes; by which name form a block is counted is the rule of `identify`.
+#![tactic(auto)]
+
 ghost use Rattle.std.specs.Prelude.{◌≡◌, List};
 ghost use Rattle.classes.specs.Classes.{ultra_dma, major_version};
 ghost use Rattle.classes.specs.Helpers.{Highest};

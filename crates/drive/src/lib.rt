@@ -1,4 +1,6 @@
 // Drive: when two IDENTIFY blocks are the same drive. The rule stands in specs/Drive.
+#![tactic(auto)]
+
 mod eights;
 
 ghost use Rattle.std.specs.Prelude.{◌≡◌, ◌&&◌, List, length};

@@ -1,6 +1,8 @@
 // Feed: an IDENTIFY block off the wire. The input is runs, each of two length bytes, high byte first, and that many bytes. They
 // go into an intake one after another; then come three lines: in which run the intake was complete and after how many bytes of it,
 // how many bytes it used in all, and the name that the block's page 83h tells, or that the block is damaged.
+#![tactic(auto)]
+
 ghost use Rattle.std.specs.Prelude.{◌+◌, ◌≤◌, length};
 
 use intake::Intake;
@@ -46,7 +48,7 @@ fn complain_of_run(number: usize) {
 
 // What the runs came to: the intake; the number of the run in which it was complete, 0 in none, and after how many of its bytes; and
 // the number of the run inside which the input ended, 0 if it ended behind one.
-#[derive(Drop)]
+#[derive(Clone, Copy)]
 struct Fed {
     intake: Intake,
     run: usize,

@@ -1,5 +1,7 @@
 // Gathering: the blocks of a run of intakes, whose stores stand one after the other, gathered into lent room. An intake that is not
 // complete gives none. The rules stand in specs/Gathering.
+#![tactic(auto)]
+
 ghost use Rattle.std.specs.Prelude.{◌≡◌, false, cond, List, ◌≤◌, length};
 ghost use Rattle.room.specs.Room.{Wrote};
 ghost use Rattle.intake.specs.Intake.{complete};
@@ -90,7 +92,7 @@ pub fn put_blocks(haves: &[u16], stores: &[u8], room: &mut [u8])
 
 // What comes back of gathering: the refusal's number or 0, and how many bytes of blocks stand in the room.
 #[repr(C)]
-#[derive(Drop)]
+#[derive(Clone, Copy)]
 pub struct Gathered {
     pub number: u8,
     pub count: usize,

@@ -1,6 +1,8 @@
 // Health: the health logger. For each register image of 11 bytes that it is given, which is what a drive left after SMART
 // RETURN STATUS, it sends that command through the board, reads the sense data that come back, and prints a line with the
 // drive's place and what it said. How a drive is asked, and what each answer stands for, is in health_asked.
+#![tactic(auto)]
+
 ghost use Rattle.std.specs.Prelude.{◌+◌, ◌*◌, ◌≤◌, ◌≡◌, length};
 
 use health_asked::Said;

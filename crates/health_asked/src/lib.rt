@@ -1,6 +1,8 @@
 // Health asked: asks one drive for its health by SMART RETURN STATUS, and reads what it said out of the sense data that come back. This
 // is the health page that version three asked for as a write: here the command is non-data, and the drive waits for nothing.
 // What each answer stands for is in specs/Said, what is asked and how in specs/Asked.
+#![tactic(auto)]
+
 ghost use Rattle.std.specs.Prelude.{◌≡◌};
 ghost use Rattle.health_asked.specs.Said.{values_of, has_registers, verdict_of, heard_in};
 ghost use Rattle.health_asked.specs.Asked.{return_status, ended, asked, given};
@@ -8,7 +10,7 @@ ghost use Rattle.health_asked.specs.Asked.{return_status, ended, asked, given};
 use passthrough::Pending;
 
 // What a drive said of its health. Error has the drive's error register, Refused the number of the board's refusal.
-#[derive(Drop)]
+#[derive(Clone, Copy)]
 pub enum Said {
     Healthy,
     Failing,
@@ -18,7 +20,7 @@ pub enum Said {
 }
 
 // The record after a drive was asked, and what it said.
-#[derive(Drop)]
+#[derive(Clone, Copy)]
 pub struct Asked {
     pub next: Pending,
     pub said: Said,

@@ -1,5 +1,7 @@
 // Identify: what the board reads in a drive's IDENTIFY block. The rules stand in specs/: Block (words and fields), Names (whether it
 // carries a name), Sector (the size of a logical sector) and Bytes (the same bytes).
+#![tactic(auto)]
+
 ghost use Rattle.std.specs.Prelude.{◌≡◌, List, ◌<◌, ◌^◌, length};
 ghost use Rattle.identify.specs.Block.{word as Block·word, serial as Block·serial, firmware as Block·firmware, model as Block·model, name as Block·name};
 ghost use Rattle.identify.specs.Bytes.{equal};

@@ -1,6 +1,8 @@
 // Input: what the words behind a program's name ask for, and the bytes that it is given: those of the files that the words name, one
 // file behind the other, or of standard input where there is no word. All of it at once is `take`; part by part is in parts. What one word
 // asks for is in `program_words`.
+#![tactic(auto)]
+
 pub mod parts;
 
 ghost use Rattle.std.specs.Prelude.{◌≤◌, ◌≡◌, length, take};
@@ -10,7 +12,7 @@ use libc::{STDERR_FILENO, STDIN_FILENO};
 use program_words::Wanted;
 
 // What is wanted, and how many bytes came.
-#[derive(Drop)]
+#[derive(Clone, Copy)]
 pub struct Got {
     pub wanted: Wanted,
     pub count: usize,
@@ -76,7 +78,7 @@ fn option(program: &[u8], i: usize) -> Wanted {
 }
 
 // How many bytes of a buffer are filled, or that a read failed.
-#[derive(Drop)]
+#[derive(Clone, Copy)]
 struct Filled {
     failed: bool,
     count: usize,

@@ -7,14 +7,14 @@ use libc::STDIN_FILENO;
 use program_words::Wanted;
 
 // Where input is read: the word whose file is open, 0 for standard input, and that file.
-#[derive(Drop)]
+#[derive(Clone, Copy)]
 pub struct Source {
     pub word: usize,
     pub file: i32,
 }
 
 // What came of a step: what is wanted; where to read on, unless all has ended; and how many bytes came.
-#[derive(Drop)]
+#[derive(Clone, Copy)]
 pub struct Part {
     pub wanted: Wanted,
     pub source: Source,

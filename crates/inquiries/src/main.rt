@@ -4,6 +4,8 @@
 // refusal number, the status, the count, and the served bytes in hexadecimal: a damaged block has number 18 in each of its lines, and
 // no bytes. The stored output was checked with sg_inq and
 // sg_vpd of sg3-utils 1.46: the names, texts and words that they decode from it are those of the blocks.
+#![tactic(auto)]
+
 ghost use Rattle.std.specs.Prelude.{◌+◌, ◌*◌, ◌≤◌, length};
 
 use libc::{STDERR_FILENO, STDOUT_FILENO};

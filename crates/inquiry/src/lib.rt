@@ -1,4 +1,6 @@
 // Inquiry: the entry that answers INQUIRY, and the part that an answer shows. The rule stands in specs/Inquiry.
+#![tactic(auto)]
+
 ghost use Rattle.std.specs.Prelude.{◌≡◌, List, length};
 ghost use Rattle.refusals.specs.Refusal.{row_of, refused_sense};
 ghost use Rattle.refusals.specs.Helpers.{Roomy};

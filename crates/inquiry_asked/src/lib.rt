@@ -1,5 +1,7 @@
 // Inquiry asked: what an INQUIRY asks for. Standard data, page 83h, and what a packet drive answers itself are told apart here; the rules
 // stand in specs/: what is lent in Request, the page and how much of it in Asked.
+#![tactic(auto)]
+
 ghost use Rattle.std.specs.Prelude.{◌≡◌, ◌&&◌, not, ◌≤◌, length};
 ghost use Rattle.inquiry_fields.specs.Fields.{evpd};
 ghost use Rattle.inquiry_asked.specs.Request.{passes_through};

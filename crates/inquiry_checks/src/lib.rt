@@ -1,5 +1,7 @@
 // Inquiry checks: the checks that refuse an INQUIRY, one function each; `fault` runs them in the table's order. The rules stand in
 // specs/Checks.
+#![tactic(auto)]
+
 ghost use Rattle.std.specs.Prelude.{◌≡◌, Bool, true, ◌&&◌, ◌||◌, not, List, ℕ, ◌≤◌, eqb, length};
 ghost use Rattle.inquiry_asked.specs.Request.{request};
 ghost use Rattle.inquiry_checks.specs.Checks.{wrong_size, wrong_field, known_page, wrong_page, no_block, no_port, no_list};

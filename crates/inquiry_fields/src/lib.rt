@@ -1,4 +1,6 @@
 // Inquiry fields: an INQUIRY command field by field; the page code is a byte as it stands. The rules stand in specs/Fields.
+#![tactic(auto)]
+
 ghost use Rattle.std.specs.Prelude.{◌≡◌, ◌≤◌, length};
 ghost use Rattle.inquiry_fields.specs.Fields.{evpd as Fields·evpd, cmddt as Fields·cmddt, allocation as Fields·allocation, naca as Fields·naca};
 

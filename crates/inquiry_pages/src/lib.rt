@@ -1,5 +1,7 @@
 // Inquiry pages: a page in answer to INQUIRY, as much of it as is asked for, into the room. What is asked, and how much of it is to be
 // written, stand in inquiry_asked/specs/Asked.
+#![tactic(auto)]
+
 ghost use Rattle.std.specs.Prelude.{◌≡◌, Bool, false, List, length};
 ghost use Rattle.port.specs.Ports.{wrong_address};
 ghost use Rattle.page83.specs.Page83.{page83};
@@ -16,7 +18,7 @@ use port::Ports;
 // What comes back: the refusal's number or 0, the status, which slice is shown (0 the drive's reply, 1 the room), and how many
 // of its bytes.
 #[repr(C)]
-#[derive(Drop)]
+#[derive(Clone, Copy)]
 pub struct Answer {
     pub number: u8,
     pub status: u8,

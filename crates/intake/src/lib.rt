@@ -1,5 +1,7 @@
 // Intake: IDENTIFY data off the wire, collected from runs of any length into a lent store of 512 bytes. The rule stands in
 // specs/Intake; specs/Stream and proofs/Stream have what it says of a stream that is divided.
+#![tactic(auto)]
+
 ghost use Rattle.std.specs.Prelude.{◌≡◌, ◌+◌, ◌%◌, ◌≤◌, false, List, length};
 ghost use Rattle.room.specs.Room.{Wrote};
 ghost use Rattle.checksum.specs.Checksum.{sum_of};
@@ -7,7 +9,7 @@ ghost use Rattle.intake.specs.Intake.{empty as Intake·empty, wrong_intake, answ
 
 // What an intake has: how many bytes, in the front of its store, and their sum modulo 256.
 #[repr(C)]
-#[derive(Drop)]
+#[derive(Clone, Copy)]
 pub struct Intake {
     pub have: u16,
     pub sum: u16,
@@ -16,7 +18,7 @@ pub struct Intake {
 // What comes back of a run: the intake afterwards, how many bytes of the run it used, the refusal's number or 0, and whether it is
 // complete.
 #[repr(C)]
-#[derive(Drop)]
+#[derive(Clone, Copy)]
 pub struct Took {
     pub next: Intake,
     pub used: u16,
@@ -82,7 +84,7 @@ pub fn take(intake: Intake, store: &mut [u8], run: &[u8]) -> Took
 
 // What an intake offers as its block: the refusal's number or 0, and how many bytes of its store.
 #[repr(C)]
-#[derive(Drop)]
+#[derive(Clone, Copy)]
 pub struct Offered {
     pub number: u8,
     pub count: usize,

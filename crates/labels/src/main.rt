@@ -1,6 +1,8 @@
 // Labels: for each IDENTIFY block of 512 bytes that it is given a line with its place, its model, serial number and firmware as the
 // board shows texts, its world wide name, and its drive's row in the roll, which is the row that `rollcall` prints. Of a damaged block,
 // which is not used, it says so; the roll is then that of the others.
+#![tactic(auto)]
+
 ghost use Rattle.std.specs.Prelude.{◌≡◌, ◌+◌, ◌%◌, ◌≤◌, length};
 
 use libc::{STDERR_FILENO, STDOUT_FILENO};

@@ -1,4 +1,6 @@
 // Order lines: the order that a line of text names, as words `field=value`. The rules stand in specs/Line.
+#![tactic(auto)]
+
 ghost use Rattle.std.specs.Prelude.{◌≡◌, List, ◌+◌, ◌≤◌, ◌<◌, length};
 ghost use Rattle.order_lines.specs.Line.{limit as Line·limit, value_of, wrong as Line·wrong, valued as Line·valued, word_of, unread as Line·unread, faulty as Line·faulty, giving as Line·giving, added as Line·added, with_part, read_line, without_return, order_of};
 
@@ -24,7 +26,7 @@ pub const LARGE: u8 = 4;
 pub const TWICE: u8 = 5;
 
 // What a word says by itself: a field's value, or what is wrong, and 0 where nothing is.
-#[derive(Drop)]
+#[derive(Clone, Copy)]
 pub struct Word {
     pub fault: u8,
     pub field: usize,
@@ -33,7 +35,7 @@ pub struct Word {
 
 // What the words of a line came to so far: the value of each field, and which are given; whether there was a word; what is wrong, 0
 // where nothing is, and the places from and up to which the wrong word stands.
-#[derive(Drop)]
+#[derive(Clone, Copy)]
 pub struct Read {
     pub values: [u32; 15],
     pub given: [bool; 15],

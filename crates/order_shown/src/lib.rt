@@ -1,5 +1,7 @@
 // Order shown: what the program `build` prints for a line: the command that makes the order, or its refusal. The rules stand in
 // specs/Shown.
+#![tactic(auto)]
+
 ghost use Rattle.std.specs.Prelude.{◌≡◌, List, ◌≤◌, length};
 ghost use Rattle.io.specs.Counts.{IsPrefixLen};
 ghost use Rattle.room.specs.Room.{Wrote};
@@ -9,7 +11,7 @@ use builder::Built;
 
 // What a line comes to: the text to print, the first `count` bytes of it; or what is wrong, 0 where nothing is, and the places from and up
 // to which the wrong word stands.
-#[derive(Drop)]
+#[derive(Clone, Copy)]
 pub struct Answer {
     pub fault: u8,
     pub start: usize,

@@ -3,7 +3,7 @@ ghost use Rattle.std.specs.Prelude.{◌≡◌, List, ◌+◌, ◌*◌, ◌≤◌
 ghost use Rattle.order_words.specs.Number.{digit as Number·digit, too_large, none as Number·none, in_base, hexadecimal as Number·hexadecimal, number_of};
 
 // A number, 2^32 standing for all that no field holds; or that there is none.
-#[derive(Drop)]
+#[derive(Clone, Copy)]
 pub struct Number {
     pub valid: bool,
     pub value: u64,

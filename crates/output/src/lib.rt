@@ -1,12 +1,14 @@
 // Output: how the board's programs show a byte of a drive's text. What they write by calls of C's no contract can say, so each program
 // does that itself.
+#![tactic(auto)]
+
 ghost use Rattle.std.specs.Prelude.{◌≡◌, ◌<◌, take};
 ghost use Rattle.io.specs.Counts.{IsPrefixLen};
 ghost use Rattle.io.specs.Digits.{hex_digit_ascii};
 ghost use Rattle.output.specs.Shown.{shown};
 
 // A byte of a text as it is shown: the first `count` of these bytes.
-#[derive(Drop)]
+#[derive(Clone, Copy)]
 pub struct Shown {
     pub bytes: [u8; 4],
     pub count: usize,

@@ -1,4 +1,6 @@
 // Packet: which drive is a packet drive, and its page 00h made from the drive's own. The rules stand in specs/Packet.
+#![tactic(auto)]
+
 ghost use Rattle.std.specs.Prelude.{◌≡◌, false, List, ◌∷◌, ◌++◌, ◌+◌, ◌<◌, ◌≤◌, length, get_or, take, drop};
 ghost use Rattle.room.specs.Room.{Wrote};
 ghost use Rattle.packet.specs.Packet.{packet_drive, listed as Packet·listed, rising as Packet·rising, with89, unusable as Packet·unusable, page00};

@@ -1,6 +1,8 @@
 // Page 83h: the page that names a drive, for whoever has a block and room, with the target ports that are chosen behind the name. The
 // rules stand in specs/Page83, those of its head and of the drive's descriptor in `page83_drive`, those of the ports in `port`;
 // `page83_reader` reads the page.
+#![tactic(auto)]
+
 ghost use Rattle.std.specs.Prelude.{◌≡◌, Bool, true, false, List, ◌+◌, ◌≤◌, length};
 ghost use Rattle.room.specs.Room.{Wrote};
 ghost use Rattle.identify.specs.Names.{carries_name};
@@ -13,7 +15,7 @@ use port::Ports;
 
 // What comes back of the writer: the refusal's number or 0, and how many bytes were written.
 #[repr(C)]
-#[derive(Drop)]
+#[derive(Clone, Copy)]
 pub struct Written {
     pub number: u8,
     pub count: usize,

@@ -1,5 +1,7 @@
 // Page 83h as far as it tells the drive: its head, and the first descriptor, which names the drive by its name or by its texts. The rules
 // stand in specs/Descriptor.
+#![tactic(auto)]
+
 ghost use Rattle.std.specs.Prelude.{◌≡◌, List, ◌++◌, ◌≤◌, length};
 ghost use Rattle.room.specs.Room.{Wrote};
 ghost use Rattle.identify.specs.Block.{serial, model, name};

@@ -1,4 +1,6 @@
 // Page 83h reader: reads a page 83h, and gives back the name and the ports that went in. The rule stands in specs/Reader.
+#![tactic(auto)]
+
 ghost use Rattle.std.specs.Prelude.{◌≡◌, Bool, true, cond, List, ◌≤◌, eqb, length, take, drop};
 ghost use Rattle.page83_reader.specs.Reader.{no_zero, headed as Reader·headed, names_drive, tells_texts, relative_in, behind_relative, sas_or_nothing, ports_of, address_of, in_sixty, refused as Reader·refused, told as Reader·told, read as Reader·read};
 
@@ -8,7 +10,7 @@ use port::{Ports, RELATIVE_HEAD, SAS_HEAD};
 // What the reader gives: 0 or 16, the form (1 the world wide name, 2 model and serial number, 0 refused), the name's bytes, the ports
 // behind it and the address of the SAS one.
 #[repr(C)]
-#[derive(Drop)]
+#[derive(Clone, Copy)]
 pub struct Name {
     pub number: u8,
     pub form: u8,

@@ -1,5 +1,7 @@
 // Pages: standard data and pages 00h, 80h and 89h, one function a page. Each writes what fits, straight to its place. The
 // rules stand in specs/Page.
+#![tactic(auto)]
+
 ghost use Rattle.std.specs.Prelude.{◌≡◌, Bool, cond, List, ◌+◌, length, take, replicate};
 ghost use Rattle.room.specs.Room.{Wrote};
 ghost use Rattle.rules.specs.Bits.{bit};

@@ -1,5 +1,7 @@
 // Pass-through: the record that holds what is pending, an order or an order with a reset over it, a command submitted to it, and the
 // completion. The rules stand in specs/: Record, Submit and Complete.
+#![tactic(auto)]
+
 mod held;
 
 ghost use Rattle.std.specs.Prelude.{◌≡◌};
@@ -19,7 +21,7 @@ pub const LATER: u8 = 2;
 // The pending record. State 0 holds nothing, 2 an order with a reset over it, and every other number an order. `order` is what
 // completion ends, `older` the order under a reset. Numbers only, and no gaps between them, so that C code can hold it as it is.
 #[repr(C)]
-#[derive(Drop)]
+#[derive(Clone, Copy)]
 pub struct Pending {
     pub state: u32,
     pub order: Order,
@@ -28,7 +30,7 @@ pub struct Pending {
 
 // What comes back of a command: the refusal's number or 0, the status, and the order, zero where none was taken.
 #[repr(C)]
-#[derive(Drop)]
+#[derive(Clone, Copy)]
 pub struct Taken {
     pub number: u8,
     pub status: u8,
@@ -36,7 +38,7 @@ pub struct Taken {
 }
 
 // The record after a command, and what comes back of it.
-#[derive(Drop)]
+#[derive(Clone, Copy)]
 pub struct Submitted {
     pub next: Pending,
     pub taken: Taken,
@@ -44,7 +46,7 @@ pub struct Submitted {
 
 // What comes back of a completion: beside number and status, whether an order was lost under a reset (0 or 1), and its protocol.
 #[repr(C)]
-#[derive(Drop)]
+#[derive(Clone, Copy)]
 pub struct Ended {
     pub number: u8,
     pub status: u8,
@@ -53,7 +55,7 @@ pub struct Ended {
 }
 
 // The record after a completion, and what comes back of it.
-#[derive(Drop)]
+#[derive(Clone, Copy)]
 pub struct Completed {
     pub next: Pending,
     pub ended: Ended,

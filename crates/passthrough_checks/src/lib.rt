@@ -1,4 +1,6 @@
 // Pass-through checks: one function each, and `fault` runs them in the table's order. The rules stand in specs/Checks.
+#![tactic(auto)]
+
 ghost use Rattle.std.specs.Prelude.{◌≡◌, ◌<◌, length};
 ghost use Rattle.rules.specs.First.{first};
 ghost use Rattle.passthrough_checks.specs.Checks.{wrong_size, wrong_protocol, waits as Checks·waits, wrong_length, wrong_direction};

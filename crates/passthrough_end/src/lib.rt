@@ -1,5 +1,7 @@
 // Pass-through end: how an order ends, by what the drive reports and the order's own flags: its status, and what its sense data tell. The
 // rule stands in specs/End.
+#![tactic(auto)]
+
 ghost use Rattle.std.specs.Prelude.{◌≡◌, ◌≤◌, length};
 ghost use Rattle.passthrough_end.specs.End.{failed as End·failed, end_status, end_sense};
 

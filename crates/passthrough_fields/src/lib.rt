@@ -1,4 +1,6 @@
 // Pass-through fields: ATA PASS-THROUGH (12), (16) and (32), field by field. The rules stand in specs/Fields.
+#![tactic(auto)]
+
 pub mod sent;
 
 ghost use Rattle.std.specs.Prelude.{◌≡◌, ◌<◌, ◌≤◌, length};

@@ -4,7 +4,7 @@ ghost use Rattle.passthrough_fields.specs.Fields.{long as Fields·long, longest 
 ghost use Rattle.passthrough_fields.specs.Helpers.{Whole, sent_of};
 
 // EXTEND, the auxiliary number, five registers, device and command.
-#[derive(Drop)]
+#[derive(Clone, Copy)]
 pub struct Sent {
     pub extend: bool,
     pub auxiliary: u32,

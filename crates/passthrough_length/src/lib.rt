@@ -1,5 +1,7 @@
 // Pass-through length: how many bytes of data a pass-through command asks for. A count of blocks and a count of bytes are kept apart
 // until the one multiplication; a block's size is a count of bytes, too. The rules stand in specs/Length.
+#![tactic(auto)]
+
 ghost use Rattle.std.specs.Prelude.{◌≡◌, ◌<◌, ◌*◌, ◌^◌};
 ghost use Rattle.passthrough_fields.specs.Helpers.{Whole, sent_of};
 ghost use Rattle.passthrough_length.specs.Helpers.{Lent};
@@ -8,11 +10,11 @@ ghost use Rattle.passthrough_length.specs.Length.{bytes_in, block_size, in_secto
 use passthrough_fields::sent::Sent;
 
 // A count of blocks.
-#[derive(Drop)]
+#[derive(Clone, Copy)]
 pub struct Blocks(pub u16);
 
 // A count of bytes.
-#[derive(Drop)]
+#[derive(Clone, Copy)]
 pub struct Bytes(pub u64);
 
 impl Blocks {

@@ -1,5 +1,7 @@
 // Pass-through order: the order for the drive that a pass-through command makes. The rules stand in specs/Order; the crate
 // `passthrough_checks` refuses commands.
+#![tactic(auto)]
+
 pub mod read;
 
 ghost use Rattle.std.specs.Prelude.{◌≡◌};
@@ -7,7 +9,7 @@ ghost use Rattle.passthrough_order.specs.Order.{no_order};
 
 // An order for the drive. Numbers only, and no gaps between them, so that C code can hold it as it is.
 #[repr(C)]
-#[derive(Drop)]
+#[derive(Clone, Copy)]
 pub struct Order {
     pub length: u32,
     pub auxiliary: u32,

@@ -1,5 +1,7 @@
 // Piongseut: the board as a C library. Every entry is a thin function over the one that is proved below it, and promises the same
 // in the same words; include/piongseut.h says it to C. Only what stands here is visible in the archive.
+#![tactic(auto)]
+
 ghost use Rattle.std.specs.Prelude.{◌≡◌, List};
 ghost use Rattle.inquiry_asked.specs.Request.{request};
 ghost use Rattle.inquiry.specs.Inquiry.{outcome as inquiry_outcome, inquiry as inquiry_rule};

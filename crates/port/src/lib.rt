@@ -1,5 +1,7 @@
 // Port: the target ports that a page 83h tells: which are chosen, and their descriptors, each put into the room behind the one before.
 // The rules stand in specs/Ports.
+#![tactic(auto)]
+
 ghost use Rattle.std.specs.Prelude.{◌≡◌, Bool, false, ◌||◌, List, ℕ, ◌+◌, ◌≤◌, length};
 ghost use Rattle.room.specs.Room.{Wrote};
 ghost use Rattle.port.specs.Ports.{relative_chosen, sas_chosen, is_port, relative_part, sas_part, ports_part, wrong_address, wrong_port};
@@ -8,7 +10,7 @@ ghost use Rattle.port.specs.Helpers.{ports_size};
 // The target ports that a caller chooses: bit 0 the relative one, whose number stands beside it, bit 1 the SAS one, whose address is
 // lent.
 #[repr(C)]
-#[derive(Drop)]
+#[derive(Clone, Copy)]
 pub struct Ports {
     pub chosen: u16,
     pub relative: u16,

@@ -1,9 +1,11 @@
 // Program words: what a word behind a program's name asks for. The rule stands in specs/Words; what comes of it is in `input`.
+#![tactic(auto)]
+
 ghost use Rattle.std.specs.Prelude.{◌≡◌};
 ghost use Rattle.program_words.specs.Words.{wanted_by};
 
 // What the words ask for. Complained stands for words that ask for nothing that can be done, once that has been said.
-#[derive(Drop)]
+#[derive(Clone, Copy)]
 pub enum Wanted {
     Read,
     Help,

@@ -1,5 +1,7 @@
 // Received: what is done with intakes: INQUIRY from the block of one, and the roll of a run of them. The rules stand in
 // specs/Received; each is the one that exists, over the intake's block. specs/Stream and proofs/Stream have what they say of streams.
+#![tactic(auto)]
+
 ghost use Rattle.std.specs.Prelude.{◌≡◌, List};
 ghost use Rattle.inquiry.specs.Inquiry.{outcome as inquiry_outcome};
 ghost use Rattle.received.specs.Received.{inquiry_of, outcome, roll_of};

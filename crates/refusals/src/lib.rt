@@ -1,5 +1,7 @@
 // Refusals: the table, by number, and what a refusal answers: its status, and the sense data of its row. The rules stand in
 // specs/Refusal.
+#![tactic(auto)]
+
 ghost use Rattle.std.specs.Prelude.{◌≡◌, List, ◌≤◌, length};
 ghost use Rattle.refusals.specs.Refusal.{row_of, three_bytes, refused_sense};
 ghost use Rattle.refusals.specs.Helpers.{Roomy};

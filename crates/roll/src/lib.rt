@@ -1,5 +1,7 @@
 // Roll: up to 64 IDENTIFY blocks in one buffer, a row number for each, and how many different drives they are. The rule stands
 // in specs/Roll.
+#![tactic(auto)]
+
 ghost use Rattle.std.specs.Prelude.{◌≡◌, List, ℕ, ◌+◌, ◌*◌, ◌≤◌, ◌<◌, length, get_or, take, drop};
 ghost use Rattle.checksum.specs.Checksum.{any_damaged};
 ghost use Rattle.roll.specs.Roll.{blocks_in, outcome, roll as Roll·roll};
@@ -7,7 +9,7 @@ ghost use Rattle.roll.specs.Helpers.{Found, Rolled, next_row};
 
 // What comes back: the refusal's number or 0, how many blocks there are, and how many drives.
 #[repr(C)]
-#[derive(Drop)]
+#[derive(Clone, Copy)]
 pub struct Counted {
     pub number: u8,
     pub blocks: u16,
@@ -42,7 +44,7 @@ fn first_of(bytes: &[u8], i: usize) -> usize
 }
 
 // A block's row, and how many drives there are with it.
-#[derive(Drop)]
+#[derive(Clone, Copy)]
 struct Row {
     row: u16,
     drives: u16,

@@ -2,6 +2,8 @@
 // many drives there are; then comes a line for each block with its place from 0, its row, and what tells its drive: `wwn`
 // where the block carries a world wide name, `text` where model and serial number do. Input that is no roll is `refused 1`, and a roll
 // with a damaged block `refused 18`.
+#![tactic(auto)]
+
 ghost use Rattle.std.specs.Prelude.{◌+◌, ◌*◌, ◌≤◌, ◌≡◌, length};
 
 use libc::{STDERR_FILENO, STDOUT_FILENO};

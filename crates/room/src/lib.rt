@@ -1,5 +1,7 @@
 // Room: writing into room that a caller lends. What is called `put` stores what fits and leaves the rest of the room as it was, so
 // that it asks for no room, and a cut reply is the same writer in a shorter room. What is called `store` is for room that is there.
+#![tactic(auto)]
+
 ghost use Rattle.std.specs.Prelude.{◌≡◌, List, [], ◌∷◌, ◌+◌, ◌%◌, ◌≤◌, leb, length};
 ghost use Rattle.room.specs.Room.{Wrote};
 ghost use Rattle.room.specs.Helpers.{fitting};

@@ -1,5 +1,7 @@
 // Rules: the words that the board's rules are written with: bits of a byte, checks in order, the lesser of two
 // numbers, a part of a run of bytes.
+#![tactic(auto)]
+
 ghost use Rattle.std.specs.Prelude.{◌≡◌, List, ◌+◌, ◌*◌, ◌-◌, ◌<◌, ◌≤◌, min, get_or, take, drop};
 ghost use Rattle.rules.specs.Bits.{bit as Bits·bit, flag as Bits·flag};
 

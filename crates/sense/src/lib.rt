@@ -1,5 +1,7 @@
 // Sense: the sense data that a refusal or an ended order leaves, in the form that the caller asks for. The rules stand in specs/: Sense
 // (which form, and the bytes of the descriptor form; those of the fixed one are sense_fixed's) and Carried (what is read out of either).
+#![tactic(auto)]
+
 ghost use Rattle.std.specs.Prelude.{◌≡◌, Bool, true, false, List, ◌<◌, ◌≤◌, length};
 ghost use Rattle.room.specs.Room.{Wrote};
 ghost use Rattle.sense.specs.Sense.{is_fixed, descriptor_sense, sense_data, nothing, registers as told, upper as Sense·upper, shown as Sense·shown};

@@ -1,5 +1,7 @@
 // The fixed form of sense data: 18 bytes, with the registers that are told in places of their own. The rules stand in specs/: Fixed, and
 // Told (what stands beside key, ASC and ASCQ, in either form).
+#![tactic(auto)]
+
 ghost use Rattle.std.specs.Prelude.{◌≡◌, List, ◌≤◌, length};
 ghost use Rattle.room.specs.Room.{Wrote};
 ghost use Rattle.sense_fixed.specs.Told.{nothing, registers as told};

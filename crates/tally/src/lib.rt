@@ -1,5 +1,7 @@
 // Tally: the census of a fleet's drives, which counts IDENTIFY blocks by their classes as they are fed one at a time. The rule stands
 // in specs/Census; specs/Fleet and proofs/Fleet have what it says of many blocks.
+#![tactic(auto)]
+
 ghost use Rattle.std.specs.Prelude.{◌≡◌, List, ◌≤◌, length};
 ghost use Rattle.checksum.specs.Checksum.{sum_of};
 ghost use Rattle.tally.specs.Census.{empty as Census·empty, uneven as Census·uneven, closed as Census·closed, refusal_of, feed as Census·feed};
@@ -7,7 +9,7 @@ ghost use Rattle.tally.specs.Census.{empty as Census·empty, uneven as Census·u
 // How many blocks were fed; how many of them carry a name and how many do not; and how many are of each class: `udma` has Ultra DMA
 // modes 0 to 6 and none behind them, `version` the major versions 1 to 14 and none behind them.
 #[repr(C)]
-#[derive(Drop)]
+#[derive(Clone, Copy)]
 pub struct Census {
     pub blocks: u16,
     pub named: u16,
@@ -18,7 +20,7 @@ pub struct Census {
 
 // What comes back of a block: the census afterwards, and the refusal's number or 0.
 #[repr(C)]
-#[derive(Drop)]
+#[derive(Clone, Copy)]
 pub struct Fed {
     pub next: Census,
     pub number: u8,

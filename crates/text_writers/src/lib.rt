@@ -1,5 +1,7 @@
 // Text writers: write a text turned, its zero bytes kept or made spaces, whole words at a time where it fits, else byte by byte. The
 // rules stand in `texts`, specs/Text.
+#![tactic(auto)]
+
 ghost use Rattle.std.specs.Prelude.{◌≡◌, List, map, ◌+◌, ◌%◌, ◌≤◌, length, take, drop};
 ghost use Rattle.room.specs.Room.{Wrote};
 ghost use Rattle.texts.specs.Text.{turned, spaced};

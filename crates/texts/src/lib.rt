@@ -1,6 +1,8 @@
 // Texts: how the texts of an IDENTIFY block are written: the bytes of each word exchanged, zero bytes kept or made spaces; and which
 // part of the firmware text is shown as a revision. The rules stand in specs/Text. Here a text is written byte by byte; `text_writers`
 // writes whole words where they fit.
+#![tactic(auto)]
+
 ghost use Rattle.std.specs.Prelude.{◌≡◌, List, map, ◌<◌, length, get_or};
 ghost use Rattle.room.specs.Room.{Wrote};
 ghost use Rattle.texts.specs.Text.{turned, all_spaces, revision_part, revision};
