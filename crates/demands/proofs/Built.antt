@@ -16,7 +16,7 @@ use Rattle.passthrough_fields.specs.Fields as Fields
 use Rattle.passthrough_length.specs.Length.{length_of}
 use Rattle.passthrough_order.specs.declared.Order.{Order}
 use Rattle.passthrough_order.specs.Order.{without_data, from_drive, to_drive, with_data, reset, quiet_seconds, reset_order, command_order, order_of}
-use Rattle.passthrough_checks.specs.Checks.{wrong_size, wrong_action, wrong_protocol, waits, wrong_length, wrong_direction, no_length, too_long, checks_of, refusal_of}
+use Rattle.passthrough_checks.specs.Checks.{wrong_size, wrong_action, wrong_protocol, wrong_length, wrong_direction, no_length, too_long, checks_of, refusal_of}
 use Rattle.buildable.specs.Fields.{off_line_for, multiple_count_for, length_bits}
 use Rattle.buildable.specs.Buildable.{every, without_upper, has_direction, data_fit, of_command, of_reset, tests, buildable}
 use Rattle.builder.specs.Builder.{short, long, built, build}
@@ -28,15 +28,12 @@ use Rattle.passthrough.specs.Submit as Submit
 use Rattle.passthrough.specs.Submit.{submit}
 use Rattle.demands.specs.Counts.{counts_of, points_at}
 use Rattle.demands.specs.Promises.{Submission, order_from, sent, BuiltReadsBack, Makes, BuiltExactlyWhen, SameOrderSameFields}
+use Rattle.demands.proofs.Runs.{none_answers}
 use Rattle.demands.proofs.Order as Submitted
+use Rattle.demands.proofs.Waiting.{none_waits}
 use Rattle.demands.proofs.Counts.{reset_without, no_auxiliary, order_with, counts_in, order_by_counts, proper, counts_back}
 use Rattle.demands.proofs.ReadBack.{ReadsAs, short_reads, long_reads, reads_length, reads_order, Data, with_fit}
 use Rattle.identify.specs.Bytes.{Bytes, no_more, more}
-
--- Where no check applies, none answers.
-none_answers : (checks : List Check) → Silent checks → first checks ≡ 0
-none_answers [] h = refl
-none_answers (check ∷ checks) h = rw h.0 (none_answers checks h.1)
 
 -- What a protocol's number says, tried for each number that PROTOCOL can be.
 implies : (a b : Bool) → (not a || b) ≡ true → a ≡ true → b ≡ true
@@ -101,14 +98,6 @@ module _ (o : Order) (low : o.protocol < 16) where
 no_action : (c : List ℕ) → Fields.longest c ≡ false → wrong_action c ≡ false
 no_action c n = rw n
 
--- With nothing pending no order waits.
-no_wait : (p : ℕ) → waits false false p ≡ false
-no_wait p = by (reset p)
-  where
-    by : (b : Bool) → cond b false false ≡ false
-    by true = refl
-    by false = refl
-
 -- A command that reads as an order that can be built is refused by no check, with nothing pending and the order's length declared.
 module _ (c : List ℕ) (o : Order) (r : ReadsAs c o) (e : buildable o ≡ true) (registers : ℕ) (block : List ℕ) (sense : ℕ) (sized : wrong_size registers sense ≡ false) where
   low : o.protocol < 12
@@ -121,7 +110,7 @@ module _ (c : List ℕ) (o : Order) (r : ReadsAs c o) (e : buildable o ≡ true)
       all : (reset o.protocol || (without_data o.protocol || with_data o.protocol)) ≡ true → wrong_length o.protocol (length_bits o.length o.count o.features % 4) ≡ false → wrong_direction o.protocol (eqb o.direction 1) ≡ false → no_length o.protocol o.length ≡ false → Silent (checks_of false false false c registers block o.length sense)
       all k h11 h12 h13 =
           rw (r.protocol, r.t_length_is, r.t_dir_is, reads_length c o r)
-          (sized, (refl, (refl, (r.some, (r.opcode, (r.whole, (r.naca, (no_action c r.two_forms, (not-true _ (known_right o.protocol low k), (no_wait o.protocol, (h11, (h12, (and-false (with_data o.protocol), (h13, (not_too_long o (omega arith), tt)))))))))))))))
+          (sized, (refl, (refl, (r.some, (r.opcode, (r.whole, (r.naca, (no_action c r.two_forms, (not-true _ (known_right o.protocol low k), (none_waits o.protocol, (h11, (h12, (and-false (with_data o.protocol), (h13, (not_too_long o (omega arith), tt)))))))))))))))
 
       by : (b : Bool) → reset o.protocol ≡ b → cond b (every (of_reset o)) (every (of_command o)) ≡ true → Silent (checks_of false false false c registers block o.length sense)
       by true t h =
@@ -149,7 +138,7 @@ no_fifteen : (p : ℕ) → p < 12 → p ≡ 15 → ⊥
 no_fifteen p h e = omega arith
 
 -- A byte of a command of bytes, and the byte of a field.
-byte_low : {c : List ℕ} → Bytes c → (i : ℕ) → get_or c i 0 < 0x100
+pub byte_low : {c : List ℕ} → Bytes c → (i : ℕ) → get_or c i 0 < 0x100
 byte_low no_more i = omega arith
 byte_low (more h b) zero = h
 byte_low (more h b) (suc i) = byte_low b i

@@ -66,7 +66,7 @@ pub no_auxiliary : (c : List ℕ) → Fields.longest c ≡ false → Fields.auxi
 no_auxiliary c n = rw n
 
 -- T_DIR is looked at with data alone.
-looked_at : (d t : Bool) → ◌≡◌ {A = ℕ} (cond d (cond t 1 2) 0) (cond d (cond (d && t) 1 2) 0)
+pub looked_at : (d t : Bool) → ◌≡◌ {A = ℕ} (cond d (cond t 1 2) 0) (cond d (cond (d && t) 1 2) 0)
 looked_at true t = refl
 looked_at false t = refl
 

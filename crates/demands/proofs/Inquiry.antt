@@ -18,18 +18,46 @@ use Rattle.inquiry_checks.specs.Checks.{refusal_of}
 use Rattle.inquiry_checks.specs.Helpers.{early_refusal}
 use Rattle.inquiry_checks.proofs.Laws.{granted, accepted_early}
 use Rattle.inquiry.specs.Inquiry.{Outcome, refused, passed, served, inquiry}
-use Rattle.demands.specs.Promises.{WithinAllocation, with_allocation, asking, shown, CutAgain, AsksItsName, PagesOfInquiry}
+use Rattle.demands.specs.Promises.{Within, WithinAllocation, AlwaysWithinAllocation, ReadsAlike, ReadAlike, with_allocation, asking, shown, CutsAgain, CutAgain, AlwaysCutAgain, AsksItsName, PagesOfInquiry}
+use Rattle.demands.specs.InquiryRead.{InquiryRead, read_of_inquiry}
+use Rattle.demands.specs.Answerable.{with_block}
 use Rattle.demands.proofs.Refusals.{not_refused}
+use Rattle.demands.proofs.FromIntake.{of_both}
 use Rattle.demands.proofs.Page83.{tells_apart}
 
-pub within_allocation : WithinAllocation
+within : Within inquiry
 unfolding inquiry
-within_allocation q form room sense = by (eqb (refusal_of q (length room) (length sense)) 0) (passes_through (is_packet q) q.command)
+within q form room sense = by (eqb (refusal_of q (length room) (length sense)) 0) (passes_through (is_packet q) q.command)
   where
     by : (ok through : Bool) → (cond ok (cond through (passed q room sense) (served q room sense)) (refused form (refusal_of q (length room) (length sense)) room sense)).answer.count ≤ allocation q.command
     by true true = omega arith
     by true false = omega arith
     by false through = omega arith
+
+pub within_allocation : WithinAllocation
+within_allocation = within
+
+pub always_within_allocation : AlwaysWithinAllocation
+always_within_allocation = of_both Within within (λ q form room sense. omega arith) (λ block q. within (with_block q block))
+
+-- An outcome hangs on what is read of the command alone.
+reads_alike : ReadsAlike inquiry
+unfolding inquiry refusal_of page read_of_inquiry
+reads_alike q command other form room sense e =
+    rw (
+      ap (λ (r : InquiryRead). r.empty) e,
+      ap (λ (r : InquiryRead). r.short) e,
+      ap (λ (r : InquiryRead). r.opcode) e,
+      ap (λ (r : InquiryRead). r.evpd) e,
+      ap (λ (r : InquiryRead). r.cmddt) e,
+      ap (λ (r : InquiryRead). r.page_code_is) e,
+      ap (λ (r : InquiryRead). r.allocation) e,
+      ap (λ (r : InquiryRead). r.naca) e,
+    )
+
+pub read_alike : ReadAlike
+read_alike =
+    of_both ReadsAlike reads_alike (λ q command other form room sense e. refl) (λ block q. reads_alike (with_block q block))
 
 -- What an accepted INQUIRY shows: the drive's own reply or the page, cut to the allocation length.
 module _ (q : Request) (form : ℕ) (room sense : List ℕ) where
@@ -49,6 +77,13 @@ module _ (q : Request) (form : ℕ) (room sense : List ℕ) where
   inquiry_is : refusal ≡ 0 → inquiry q form room sense ≡ accepted (passes_through (is_packet q) q.command)
   unfolding inquiry
   inquiry_is z = rw (eq-eqb refusal 0 z)
+
+  pub number_zero : refusal ≡ 0 → (inquiry q form room sense).answer.number ≡ 0
+  number_zero z = ap (λ (o : Outcome). o.answer.number) (inquiry_is z) ∙ by (passes_through (is_packet q) q.command)
+    where
+      by : (t : Bool) → (accepted t).answer.number ≡ 0
+      by true = refl
+      by false = refl
 
   pub shows : refusal ≡ 0 → shown q (inquiry q form room sense) ≡ take (allocation q.command) (cond (passes_through (is_packet q) q.command) q.reply (page q))
   shows z = ap (shown q) (inquiry_is z) ∙ by (passes_through (is_packet q) q.command)
@@ -92,11 +127,19 @@ module _ (q : Request) where
       let l = (granted (asking q n) (length sense) (early (asking q n) form room sense z)).whole in
       shows (asking q n) form room sense z ∙ ap (λ (k : ℕ). take k (cond (passes_through (is_packet q) (with_allocation n q.command)) q.reply (page (asking q n)))) (own_length n l h) ∙ ap (take n) (same_reply n)
 
-pub cut_again : CutAgain
-cut_again q a b form other-form room sense other-room other-sense le lt ea eb =
+cuts_again : CutsAgain inquiry
+cuts_again q a b form other-form room sense other-room other-sense le lt ea eb =
     let least : min b a ≡ a = omega arith in
     shows_asked q a form room sense (omega arith) ea
     ∙ sym (ap (take a) (shows_asked q b other-form other-room other-sense lt eb) ∙ cut_twice b a (whatever q) ∙ ap (λ (n : ℕ). take n (whatever q)) least)
+
+pub cut_again : CutAgain
+cut_again = cuts_again
+
+pub always_cut_again : AlwaysCutAgain
+always_cut_again =
+    of_both CutsAgain cuts_again (λ q a b form other-form room sense other-room other-sense le lt ea eb. absurd (omega (arith, ea)))
+    (λ block q. cuts_again (with_block q block))
 
 -- Asked for the complete page 83h, it shows the page.
 module _ (q : Request) (form : ℕ) (room sense : List ℕ) (a : AsksItsName q room sense) where
@@ -133,9 +176,6 @@ module _ (q : Request) (form : ℕ) (room sense : List ℕ) (a : AsksItsName q r
         a.writable.right_port,
       )
 
-  number_zero : (inquiry q form room sense).answer.number ≡ 0
-  number_zero = rw (inquiry_is q form room sense accepts, through)
-
   shown_is : shown q (inquiry q form room sense) ≡ whole_page
   shown_is =
       shows q form room sense accepts
@@ -143,7 +183,7 @@ module _ (q : Request) (form : ℕ) (room sense : List ℕ) (a : AsksItsName q r
 
 pub pages_of_inquiry : PagesOfInquiry
 pages_of_inquiry q r form other-form room sense other-room other-sense a b = (
-  number_zero q form room sense a,
-  number_zero r other-form other-room other-sense b,
+  number_zero q form room sense (accepts q form room sense a),
+  number_zero r other-form other-room other-sense (accepts r other-form other-room other-sense b),
   rw (shown_is q form room sense a, shown_is r other-form other-room other-sense b) (tells_apart a.writable b.writable),
 )

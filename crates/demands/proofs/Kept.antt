@@ -4,8 +4,14 @@ use Rattle.drive.proofs.Words.{same_drive_by_words}
 use Rattle.demands.specs.Promises.{Settled, OneOutcome, Promises}
 use Rattle.demands.proofs.Refusals.{refusals_change_nothing}
 use Rattle.demands.proofs.Soundings.{soundings_hold, later_soundings_hold}
-use Rattle.demands.proofs.Inquiry.{within_allocation, cut_again, pages_of_inquiry}
-use Rattle.demands.proofs.Order.{direction_from_the_fields, only_the_command_differs, own_flags, completed_with_its_own_fields, taken_while_pending, protocol_15_keeps_the_record}
+use Rattle.demands.proofs.Inquiry.{within_allocation, always_within_allocation, read_alike, cut_again, always_cut_again, pages_of_inquiry}
+use Rattle.demands.proofs.Answerable.{inquiry_accepts}
+use Rattle.demands.proofs.Accepted.{submit_accepts}
+use Rattle.demands.proofs.Length.{length_of_data}
+use Rattle.demands.proofs.Places.{only_what_is_read_counts}
+use Rattle.demands.proofs.Order.{direction_from_the_fields, own_flags, own_flags_when_taken, completed_with_its_own_fields}
+use Rattle.demands.proofs.AtaCommand.{only_the_command_differs, outcomes_differ_in_the_command}
+use Rattle.demands.proofs.Waiting.{taken_while_pending, answered_while_pending, protocol_15_keeps_the_record, protocol_15_only_reports}
 use Rattle.demands.proofs.FirstEdition.{first_edition_stays}
 use Rattle.demands.proofs.History.{every_order_accounted}
 use Rattle.demands.proofs.Forms.{forms_agree_everywhere, form_changes_only_sense, usual_form}
@@ -47,16 +53,27 @@ kept =
       refusals_change_nothing = refusals_change_nothing;
       damaged_is_refused = damaged_is_refused;
       within_allocation = within_allocation;
+      always_within_allocation = always_within_allocation;
+      read_alike = read_alike;
       cut_again = cut_again;
+      always_cut_again = always_cut_again;
+      inquiry_accepts = inquiry_accepts;
       soundings_hold = soundings_hold;
       later_soundings_hold = later_soundings_hold;
+      submit_accepts = submit_accepts;
+      length_of_data = length_of_data;
+      only_what_is_read_counts = only_what_is_read_counts;
       direction_from_the_fields = direction_from_the_fields;
       only_the_command_differs = only_the_command_differs;
+      outcomes_differ_in_the_command = outcomes_differ_in_the_command;
       first_edition_stays = first_edition_stays;
       own_flags = own_flags;
+      own_flags_when_taken = own_flags_when_taken;
       completed_with_its_own_fields = completed_with_its_own_fields;
       taken_while_pending = taken_while_pending;
+      answered_while_pending = answered_while_pending;
       protocol_15_keeps_the_record = protocol_15_keeps_the_record;
+      protocol_15_only_reports = protocol_15_only_reports;
       every_order_accounted = every_order_accounted;
       forms_agree = forms_agree_everywhere;
       form_changes_only_sense = form_changes_only_sense;

@@ -1,8 +1,17 @@
 -- The promises kept: `Kept` gathers the proofs, which stand by subject.
+pub mod Runs
 pub mod Refusals
 pub mod Soundings
+pub mod FromIntake
 pub mod Inquiry
+pub mod Answerable
 pub mod Order
+pub mod AtaCommand
+pub mod Counted
+pub mod Accepted
+pub mod Places
+pub mod Length
+pub mod Waiting
 pub mod History
 pub mod Ports
 pub mod Page83
@@ -13,6 +22,7 @@ pub mod Census
 pub mod FirstEdition
 pub mod Forms
 pub mod Counts
+pub mod Read
 pub mod ReadBack
 pub mod Built
 pub mod Bridge

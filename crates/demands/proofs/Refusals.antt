@@ -80,7 +80,7 @@ of_inquiry q form room sense h =
 abbrev submit_number : Submit.Outcome → ℕ
 submit_number o = o.submitted.taken.number
 
-of_submit : (p : Pending) (command registers block : List ℕ) (declared edition form : ℕ) (sense : List ℕ) → Refused (submit p command registers block declared edition form sense).submitted.taken.number → submit p command registers block declared edition form sense ≡ Submit.refused p form (submit p command registers block declared edition form sense).submitted.taken.number sense
+pub of_submit : (p : Pending) (command registers block : List ℕ) (declared edition form : ℕ) (sense : List ℕ) → Refused (submit p command registers block declared edition form sense).submitted.taken.number → submit p command registers block declared edition form sense ≡ Submit.refused p form (submit p command registers block declared edition form sense).submitted.taken.number sense
 unfolding submit
 of_submit p command registers block declared edition form sense h =
     let r = Submit.refusal_of p command registers block declared edition (length sense) in

@@ -2,14 +2,14 @@
 -- with a name, in the demands' order.
 -- Nothing is proved on this page; proofs/Kept has a proof of each. An entry's contract equates all that the entry does with the rule
 -- that is named here, so that each promise is one about the entry.
-use Rattle.std.specs.Prelude.{◌≡◌, Bool, true, false, cond, not, ◌⊎◌, ◌↔◌, List, [], ◌∷◌, ◌++◌, ℕ, suc, ◌+◌, ◌*◌, ◌-◌, ◌/◌, ◌%◌, ◌≤◌, ◌<◌, eqb, leb, length, get_or, take, drop, set, replicate}
+use Rattle.std.specs.Prelude.{◌≡◌, Bool, true, false, cond, not, ◌&&◌, ◌||◌, ◌⊎◌, ◌↔◌, List, [], ◌∷◌, ◌++◌, ℕ, suc, ◌+◌, ◌*◌, ◌-◌, ◌/◌, ◌%◌, ◌^◌, ◌≤◌, ◌<◌, eqb, leb, length, get_or, take, drop, set, replicate}
 use Rattle.rules.specs.Bits.{flag}
 use Rattle.room.specs.Room.{written}
 use Rattle.texts.specs.Text.{turned, spaced}
 use Rattle.checksum.specs.Checksum.{sum_of, damaged_by, damaged}
 use Rattle.sense_fixed.specs.Fixed.{fixed_sense}
 use Rattle.sense.specs.Sense.{Told, is_fixed, descriptor_sense, unstated, fixed, descriptor, sense_data}
-use Rattle.refusals.specs.Refusal.{no_status, check_condition}
+use Rattle.refusals.specs.Refusal.{no_status, check_condition, busy}
 use Rattle.sense.specs.Carried.{sensed, in_fixed, in_descriptor}
 use Rattle.identify.specs.Block.{serial, model, name}
 use Rattle.identify.specs.Bytes.{Bytes}
@@ -29,7 +29,8 @@ use Rattle.inquiry_asked.specs.Asked.{page}
 use Rattle.inquiry_checks.specs.Checks.{wrong_size}
 use Rattle.inquiry.specs.Inquiry as Inquiry
 use Rattle.inquiry.specs.Inquiry.{inquiry, part}
-use Rattle.passthrough_fields.specs.Fields.{long, longest, size, protocol, t_dir, ck_cond, extend}
+use Rattle.passthrough_fields.specs.Fields as Fields
+use Rattle.passthrough_fields.specs.Fields.{long, longest, size, protocol, t_length, t_type, t_dir, byte_block, ck_cond, extend}
 use Rattle.passthrough_order.specs.declared.Order.{Order}
 use Rattle.passthrough_order.specs.Order.{reset, no_order}
 use Rattle.passthrough.specs.declared.Pending.{Pending}
@@ -68,6 +69,10 @@ use Rattle.tally.specs.Fleet.{feed_all, count_of, Countable, countables}
 use Rattle.passthrough_checks.specs.Checks as PassChecks
 use Rattle.demands.specs.FirstEdition as FirstEdition
 use Rattle.demands.specs.Counts.{counts_of, points_at}
+use Rattle.demands.specs.InquiryRead.{read_of_inquiry}
+use Rattle.demands.specs.Answerable.{Answerable, AnswerableFrom}
+use Rattle.demands.specs.Read.{read_of, places_read}
+use Rattle.demands.specs.Counted.{width, counter, unit}
 use Rattle.demands.specs.Soundings.{SoundingsHold, LaterSoundingsHold}
 
 -- A number that came back is a refusal's.
@@ -142,9 +147,44 @@ pub record DamagedIsRefused : Type 0 where
   pub of_feed : (c : Census) (block : List ℕ) → closed c ≡ false → damaged block ≡ true → feed c block ≡ Census.answer c 18
   pub of_check : (capture : List ℕ) → holds capture ≡ true → packet_drive (signature_of (information capture)) ≡ false → damaged (Check.block_of (information capture)) ≡ true → check capture ≡ Check.refused 18 0
 
+-- INQUIRY as it is asked: a request, the form of sense data, room and sense room.
+abbrev pub InquiryEntry : Type 0
+InquiryEntry = Request → ℕ → List ℕ → List ℕ → Inquiry.Outcome
+
+-- INQUIRY from an intake, asked so: the intake's block stands for the request's own, which is not looked at.
+abbrev pub from_intake : ℕ → List ℕ → InquiryEntry
+from_intake have store q = inquiry_of have store q.command q.signature q.texts q.reply q.ports q.address
+
+-- A promise of INQUIRY, from the block that is lent and from every intake alike.
+pub record OfInquiry (Promise : InquiryEntry → Type 0) : Type 0 where
+  pub of_inquiry : Promise inquiry
+  pub of_inquiry_from_intake : (have : ℕ) (store : List ℕ) → Promise (from_intake have store)
+
+-- No reply passes the allocation length.
+abbrev pub Within : InquiryEntry → Type 0
+Within ask = (q : Request) (form : ℕ) (room sense : List ℕ) → (ask q form room sense).answer.count ≤ allocation q.command
+
 -- No reply passes the allocation length.
 abbrev pub WithinAllocation : Type 0
 WithinAllocation = (q : Request) (form : ℕ) (room sense : List ℕ) → (inquiry q form room sense).answer.count ≤ allocation q.command
+
+abbrev pub AlwaysWithinAllocation : Type 0
+AlwaysWithinAllocation = OfInquiry Within
+
+-- The same request with another command.
+abbrev pub asked_by : Request → List ℕ → Request
+asked_by q command = request command q.block q.signature q.texts q.reply q.ports q.address
+
+-- Ignored bits and bytes of a command change nothing: commands of which the same is read (specs/InquiryRead) have the same outcome, answer,
+-- room and sense bytes.
+abbrev pub ReadsAlike : InquiryEntry → Type 0
+ReadsAlike ask =
+    (q : Request) (command other : List ℕ) (form : ℕ) (room sense : List ℕ)
+    → read_of_inquiry command ≡ read_of_inquiry other
+    → ask (asked_by q command) form room sense ≡ ask (asked_by q other) form room sense
+
+abbrev pub ReadAlike : Type 0
+ReadAlike = OfInquiry ReadsAlike
 
 -- The same request with another allocation length.
 abbrev pub with_allocation : ℕ → List ℕ → List ℕ
@@ -159,8 +199,31 @@ shown q o = part q.reply o.room o.answer.shown o.answer.count
 
 -- A host that cuts a reply again sees what it would have asked for: for the lesser of two allocation lengths the first part is shown
 -- of what is shown for the greater, of a page and of a packet drive's own reply.
+abbrev pub CutsAgain : InquiryEntry → Type 0
+CutsAgain ask =
+    (q : Request) (a b form other-form : ℕ) (room sense other-room other-sense : List ℕ)
+    → a ≤ b
+    → b < 0x10000
+    → (ask (asking q a) form room sense).answer.number ≡ 0
+    → (ask (asking q b) other-form other-room other-sense).answer.number ≡ 0
+    → shown (asking q a) (ask (asking q a) form room sense)
+    ≡ take a (shown (asking q b) (ask (asking q b) other-form other-room other-sense))
+
+-- A host that cuts a reply again sees what it would have asked for: for the lesser of two allocation lengths the first part is shown
+-- of what is shown for the greater, of a page and of a packet drive's own reply.
 abbrev pub CutAgain : Type 0
 CutAgain = (q : Request) (a b form other-form : ℕ) (room sense other-room other-sense : List ℕ) → a ≤ b → b < 0x10000 → (inquiry (asking q a) form room sense).answer.number ≡ 0 → (inquiry (asking q b) other-form other-room other-sense).answer.number ≡ 0 → shown (asking q a) (inquiry (asking q a) form room sense) ≡ take a (shown (asking q b) (inquiry (asking q b) other-form other-room other-sense))
+
+abbrev pub AlwaysCutAgain : Type 0
+AlwaysCutAgain = OfInquiry CutsAgain
+
+-- INQUIRY accepts what the table of refusals lets pass, said in words (specs/Answerable), and nothing else, in every form of sense data.
+abbrev pub Accepts : InquiryEntry → (Request → List ℕ → List ℕ → Type 0) → Type 0
+Accepts ask Right = (q : Request) (form : ℕ) (room sense : List ℕ) → ((ask q form room sense).answer.number ≡ 0) ↔ Right q room sense
+
+pub record InquiryAccepts : Type 0 where
+  pub of_inquiry : Accepts inquiry Answerable
+  pub of_inquiry_from_intake : (have : ℕ) (store : List ℕ) → Accepts (from_intake have store) (AnswerableFrom have store)
 
 -- ## Demand 2: worked cases
 
@@ -187,6 +250,109 @@ number_of s = (outcome_of s).submitted.taken.number
 
 abbrev pub order_from : Submission → Order
 order_from s = (outcome_of s).submitted.taken.order
+
+-- The same submission with another command.
+abbrev pub sending : List ℕ → Submission → Submission
+sending command s =
+    record {
+      record_given = s.record_given;
+      command = command;
+      registers = s.registers;
+      block = s.block;
+      declared = s.declared;
+      edition = s.edition;
+      form = s.form;
+      sense = s.sense;
+    }
+
+-- A number is one of those that are listed.
+abbrev pub OneOf : ℕ → List ℕ → Type 0
+OneOf n [] = ⊥
+OneOf n (m ∷ ms) = (n ≡ m) ⊎ OneOf n ms
+
+-- A protocol with data: 4 and 10 move them from the drive, 5 and 11 to it, 6 either way.
+abbrev pub MovesData : Submission → Type 0
+MovesData s = OneOf (protocol s.command) (4 ∷ 10 ∷ 5 ∷ 11 ∷ 6 ∷ [])
+
+-- T_LENGTH points at the features or the count, and BYTE_BLOCK says that they count blocks.
+abbrev pub CountsBlocks : Submission → Type 0
+CountsBlocks s = OneOf (t_length s.command) (1 ∷ 2 ∷ []) × (byte_block s.command ≡ true)
+
+-- What the checks before those of the length ask of a submission, each under its number in the table:
+pub record Fits (s : Submission) : Type 0 where
+  -- 1: 11 registers and 22 bytes of sense room, and in the later edition a block of 512 bytes or none,
+  pub registers : length s.registers ≡ 11
+  pub sense_room_is : 22 ≤ length s.sense
+  pub block_or_none : is_later s.edition ≡ true → OneOf (length s.block) (512 ∷ 0 ∷ [])
+  -- 18: which passes;
+  pub block_passes : is_later s.edition ≡ true → Passes s.block
+  -- 2, 3 and 2: a command of some bytes, with an opcode that its edition serves, and of all bytes of its form;
+  pub some_byte : 0 < length s.command
+  pub opcode : OneOf (get_or s.command 0 0) (0xA1 ∷ 0x85 ∷ []) ⊎ ((get_or s.command 0 0 ≡ 0x7F) × (is_later s.edition ≡ true))
+  pub all_bytes : size s.command ≤ length s.command
+  -- 4: NACA zero;
+  pub no_naca : Fields.naca s.command ≡ false
+  -- 20: the 32-byte form's own bytes 7 to 9;
+  pub service_action_is : get_or s.command 0 0 ≡ 0x7F
+      → (get_or s.command 7 0 ≡ 0x18) × (get_or s.command 8 0 ≡ 0x1F) × (get_or s.command 9 0 ≡ 0xF0)
+  -- 9: a protocol that is served;
+  pub protocol_served : OneOf (protocol s.command) (2 ∷ 7 ∷ 12 ∷ 13 ∷ 14 ∷ []) → ⊥
+  -- 10: no reset pending for a reset, and nothing at all for any other order; protocol 15 waits for nothing;
+  pub reset_free : OneOf (protocol s.command) (0 ∷ 1 ∷ []) → reset_pending s.record_given ≡ false
+  pub record_free : (OneOf (protocol s.command) (0 ∷ 1 ∷ 15 ∷ []) → ⊥) → nothing_pending s.record_given ≡ true
+  -- 11: T_LENGTH zero without data, and not zero with data;
+  pub without_data_is : OneOf (protocol s.command) (3 ∷ 8 ∷ 9 ∷ []) → t_length s.command ≡ 0
+  pub with_data_is : MovesData s → t_length s.command ≡ 0 → ⊥
+  -- 12: T_DIR one from the drive, zero to the drive;
+  pub from_drive_is : OneOf (protocol s.command) (4 ∷ 10 ∷ []) → t_dir s.command ≡ true
+  pub to_drive_is : OneOf (protocol s.command) (5 ∷ 11 ∷ []) → t_dir s.command ≡ false
+  -- 6: in the later edition a block, where blocks are counted and T_TYPE is one.
+  pub block_told : is_later s.edition ≡ true → MovesData s → CountsBlocks s → t_type s.command ≡ true → length s.block ≡ 0 → ⊥
+
+-- The length that data are counted by (specs/Counted): the number of the field that T_LENGTH 1 or 2 points at, times the size of what it
+-- counts; and the length that is asked for, which with T_LENGTH 3 is the declared one.
+abbrev pub counted_length : Submission → ℕ
+counted_length s = counter s.command * unit (is_later s.edition) s.block s.command
+
+abbrev pub asked_length : Submission → ℕ
+asked_length s = cond (eqb (t_length s.command) 3) s.declared (counted_length s)
+
+-- And then, with data: 13, a length that is not 0, and 14, no more than was declared.
+pub record Submittable (s : Submission) : Type 0 where
+  pub fits : Fits s
+  pub some_length : MovesData s → asked_length s ≡ 0 → ⊥
+  pub within_declared : MovesData s → asked_length s ≤ s.declared
+
+-- Those submissions are accepted, and no others.
+abbrev pub SubmitAccepts : Type 0
+SubmitAccepts = (s : Submission) → (number_of s ≡ 0) ↔ Submittable s
+
+-- The length rule, over the width of a field and the size of a block, of all three forms: where T_LENGTH points at a field,
+pub record LengthByCount (s : Submission) : Type 0 where
+  -- whose number has 8 bits, or 16 with EXTEND,
+  pub in_its_width : Bytes s.command → counter s.command < 2 ^ width s.command
+  -- the order's length is the exact product;
+  pub exact : number_of s ≡ 0 → (order_from s).length ≡ counted_length s
+  -- and of a submission that fits otherwise, 13 is given exactly for a product of 0, 14 for one above what was declared, and 0 for others.
+  pub thirteen : (number_of s ≡ 13) ↔ (Fits s × (counted_length s ≡ 0))
+  pub fourteen : (number_of s ≡ 14) ↔ (Fits s × (s.declared < counted_length s))
+  pub accepted : (number_of s ≡ 0) ↔ (Fits s × (0 < counted_length s) × (counted_length s ≤ s.declared))
+
+pub record LengthOfData : Type 0 where
+  pub by_count : (s : Submission) → MovesData s → OneOf (t_length s.command) (1 ∷ 2 ∷ []) → LengthByCount s
+  -- T_LENGTH 3 takes the declared length, and without data there is none.
+  pub as_declared : (s : Submission) → number_of s ≡ 0 → MovesData s → t_length s.command ≡ 3 → (order_from s).length ≡ s.declared
+  pub none : (s : Submission) → number_of s ≡ 0 → (MovesData s → ⊥) → (order_from s).length ≡ 0
+
+-- Ignored bits and bytes change nothing, in every form and either edition.
+pub record OnlyWhatIsReadCounts : Type 0 where
+  -- Two commands of which the same is read (specs/Read) have the same outcome, whole.
+  pub read_alike : (s : Submission) (other : List ℕ) → read_of (is_later s.edition) other ≡ read_of (is_later s.edition) s.command
+      → outcome_of (sending other s) ≡ outcome_of s
+  -- So have two that are equal in the bytes that are read: whatever bytes without a name there are, and bytes behind the command's own.
+  pub bytes_alike : (s : Submission) (other : List ℕ) → size s.command ≤ length s.command → size s.command ≤ length other
+      → ((place : ℕ) → OneOf place (places_read s.command) → get_or other place 0 ≡ get_or s.command place 0)
+      → outcome_of (sending other s) ≡ outcome_of s
 
 -- The direction is never guessed: it hangs on PROTOCOL and T_DIR alone, whatever the record, the ATA command and all else are.
 abbrev pub DirectionFromTheFields : Type 0
@@ -217,10 +383,31 @@ with_command v o =
       direction = o.direction;
     }
 
+-- The same submission with another ATA command.
+abbrev pub with_ata_command : ℕ → Submission → Submission
+with_ata_command v s = sending (set s.command (ata_command_at s.command) v) s
+
+-- An outcome with another ATA command in its order, and in the order that its record holds; all else as it was, number, status and sense
+-- room too.
+abbrev pub differs_in_command : ℕ → Submit.Outcome → Submit.Outcome
+differs_in_command v o =
+    let next = o.submitted.next in
+    let taken = o.submitted.taken in
+    let held : Pending = record { state = next.state; order = with_command v next.order; older = next.older } in
+    Submit.outcome (Submit.answer held taken.number taken.status (with_command v taken.order)) o.sense
+
 -- Two whole commands that differ in the ATA command alone make orders that differ in the field `command` alone; resets, whose
 -- orders hold no ATA command, make the same order.
 abbrev pub OnlyTheCommandDiffers : Type 0
 OnlyTheCommandDiffers = (c block : List ℕ) (declared edition v : ℕ) → size c ≤ length c → made (set c (ata_command_at c) v) block declared edition ≡ cond (reset (protocol c)) (made c block declared edition) (with_command v (made c block declared edition))
+
+-- Two submissions differ in the ATA command alone. Where an order is taken that is no reset, so do the outcomes; where none is, and of
+-- resets, whose orders hold no ATA command, the outcomes are the same.
+pub record OutcomesDifferInTheCommand : Type 0 where
+  pub of_an_order : (s : Submission) (v : ℕ) → number_of s ≡ 0 → (protocol s.command ≡ 15 → ⊥) → reset (protocol s.command) ≡ false
+      → outcome_of (with_ata_command v s) ≡ differs_in_command v (outcome_of s)
+  pub of_any_other : (s : Submission) (v : ℕ) → Refused (number_of s) ⊎ (protocol s.command ≡ 15) ⊎ (reset (protocol s.command) ≡ true)
+      → outcome_of (with_ata_command v s) ≡ outcome_of s
 
 -- In the first edition, which every number but the later's names, and whatever block is lent, a command is read and answered as it was
 -- before there was a later one (specs/FirstEdition), to the byte and for every input.
@@ -230,6 +417,12 @@ FirstEditionStays = (p : Pending) (command registers block : List ℕ) (declared
 -- CK_COND and EXTEND of an order are the command's own.
 abbrev pub OwnFlags : Type 0
 OwnFlags = (c block : List ℕ) (declared edition : ℕ) → reset (protocol c) ≡ false → (is_set (made c block declared edition).ck_cond ≡ ck_cond c) × (is_set (made c block declared edition).extend ≡ extend c)
+
+-- CK_COND and EXTEND of an order that is taken are the command's own; of a reset both are zero.
+abbrev pub OwnFlagsWhenTaken : Type 0
+OwnFlagsWhenTaken = (s : Submission) → number_of s ≡ 0 → (protocol s.command ≡ 15 → ⊥)
+    → ((order_from s).ck_cond ≡ flag (not (reset (protocol s.command)) && ck_cond s.command))
+    × ((order_from s).extend ≡ flag (not (reset (protocol s.command)) && extend s.command))
 
 -- Completing what an outcome leaves tells the status and the sense data that the order which it answered says, leaves the empty
 -- record, and reports as lost what was pending before: nothing, or an order by its protocol.
@@ -249,6 +442,21 @@ CompletedWithItsOwnFields = (s : Submission) → number_of s ≡ 0 → (protocol
 abbrev pub with_nothing_pending : Submission → Submission
 with_nothing_pending s = record { record_given = empty; command = s.command; registers = s.registers; block = s.block; declared = s.declared; edition = s.edition; form = s.form; sense = s.sense }
 
+-- The numbers of the checks that stand before 10.
+abbrev pub before_busy : ℕ → Bool
+before_busy number = eqb number 1 || eqb number 18 || eqb number 2 || eqb number 3 || eqb number 4 || eqb number 20 || eqb number 9
+
+-- A submission is answered BUSY: number 10, status 08h, a zero order, and the record and the sense room as they were given.
+abbrev pub AnsweredBusy : Submission → Type 0
+AnsweredBusy s = outcome_of s ≡ Submit.outcome (Submit.answer s.record_given 10 busy no_order) s.sense
+
+-- A submission has to wait. It is never taken: a check before 10 that refuses it with nothing pending refuses it with the same number,
+-- and where no such check applies it is answered BUSY, whatever a check behind 10 would say.
+pub record HasToWait (s : Submission) : Type 0 where
+  pub not_taken : Refused (number_of s)
+  pub checked_before : before_busy (number_of (with_nothing_pending s)) ≡ true → number_of s ≡ number_of (with_nothing_pending s)
+  pub else_busy : before_busy (number_of (with_nothing_pending s)) ≡ false → AnsweredBusy s
+
 pub record TakenWhilePending : Type 0 where
   -- While anything is pending only a reset is taken,
   pub no_other : (s : Submission) → nothing_pending s.record_given ≡ false → (protocol s.command ≡ 15 → ⊥) → reset (protocol s.command) ≡ false → Refused (number_of s)
@@ -257,9 +465,36 @@ pub record TakenWhilePending : Type 0 where
   -- but over an order that is no reset it is refused as with nothing pending, and never with 10.
   pub reset_gets_past : (s : Submission) → reset_pending s.record_given ≡ false → reset (protocol s.command) ≡ true → (number_of s ≡ number_of (with_nothing_pending s)) × (number_of s ≡ 10 → ⊥)
 
+pub record AnsweredWhilePending : Type 0 where
+  -- While anything is pending every order but a reset has to wait;
+  pub no_other : (s : Submission) → nothing_pending s.record_given ≡ false → (protocol s.command ≡ 15 → ⊥)
+      → reset (protocol s.command) ≡ false → HasToWait s
+  -- while a reset is pending so does a reset: one that would be taken with nothing pending is BUSY, and any other is refused as then;
+  pub no_second_reset : (s : Submission) → reset_pending s.record_given ≡ true → reset (protocol s.command) ≡ true → HasToWait s
+  pub second_reset_busy : (s : Submission) → reset_pending s.record_given ≡ true → reset (protocol s.command) ≡ true
+      → number_of (with_nothing_pending s) ≡ 0 → AnsweredBusy s
+  pub second_reset_else : (s : Submission) → reset_pending s.record_given ≡ true → reset (protocol s.command) ≡ true
+      → Refused (number_of (with_nothing_pending s)) → number_of s ≡ number_of (with_nothing_pending s)
+  -- but over an order that is no reset it is refused as with nothing pending, and never with 10.
+  pub reset_gets_past : (s : Submission) → reset_pending s.record_given ≡ false → reset (protocol s.command) ≡ true → (number_of s ≡ number_of (with_nothing_pending s)) × (number_of s ≡ 10 → ⊥)
+
+-- A report, which protocol 15 asks for, waits for nothing:
+pub record Reports (s : Submission) : Type 0 where
+  -- the record is left as it was given, accepted or refused;
+  pub record_kept : (outcome_of s).submitted.next ≡ s.record_given
+  -- number, status, order and sense room are those with nothing pending, so that it is accepted where it would be then;
+  pub same_answer : (outcome_of s).submitted.taken ≡ (outcome_of (with_nothing_pending s)).submitted.taken
+  pub same_sense : (outcome_of s).sense ≡ (outcome_of (with_nothing_pending s)).sense
+  -- and where it is accepted it tells the lent registers, with CHECK CONDITION.
+  pub tells_registers : number_of s ≡ 0 → outcome_of s ≡ Submit.reported s.record_given s.registers s.form s.sense
+
 -- Protocol 15 leaves the record as it was given, in every state, accepted or refused.
 abbrev pub Protocol15KeepsTheRecord : Type 0
 Protocol15KeepsTheRecord = (s : Submission) → protocol s.command ≡ 15 → (outcome_of s).submitted.next ≡ s.record_given
+
+-- So it is in every state of the record.
+abbrev pub Protocol15OnlyReports : Type 0
+Protocol15OnlyReports = (s : Submission) → protocol s.command ≡ 15 → Reports s
 
 -- The book of steps on a record that is empty at first (specs/History of `passthrough`).
 abbrev pub book : List Step → History.Book
@@ -589,16 +824,27 @@ pub record Promises : Type 0 where
   pub refusals_change_nothing : RefusalsChangeNothing
   pub damaged_is_refused : DamagedIsRefused
   pub within_allocation : WithinAllocation
+  pub always_within_allocation : AlwaysWithinAllocation
+  pub read_alike : ReadAlike
   pub cut_again : CutAgain
+  pub always_cut_again : AlwaysCutAgain
+  pub inquiry_accepts : InquiryAccepts
   pub soundings_hold : SoundingsHold
   pub later_soundings_hold : LaterSoundingsHold
+  pub submit_accepts : SubmitAccepts
+  pub length_of_data : LengthOfData
+  pub only_what_is_read_counts : OnlyWhatIsReadCounts
   pub direction_from_the_fields : DirectionFromTheFields
   pub only_the_command_differs : OnlyTheCommandDiffers
+  pub outcomes_differ_in_the_command : OutcomesDifferInTheCommand
   pub first_edition_stays : FirstEditionStays
   pub own_flags : OwnFlags
+  pub own_flags_when_taken : OwnFlagsWhenTaken
   pub completed_with_its_own_fields : CompletedWithItsOwnFields
   pub taken_while_pending : TakenWhilePending
+  pub answered_while_pending : AnsweredWhilePending
   pub protocol_15_keeps_the_record : Protocol15KeepsTheRecord
+  pub protocol_15_only_reports : Protocol15OnlyReports
   pub every_order_accounted : EveryOrderAccounted
   pub forms_agree : FormsAgree
   pub form_changes_only_sense : FormChangesOnlySense
