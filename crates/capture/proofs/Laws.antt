@@ -1,9 +1,9 @@
 -- Laws of captures: a field's bytes, a turn of a loop over the tags, and 89h as the last field.
 use mathlib.Core.Path.{◌≡◌, refl, sym, ap, ◌∙◌}
-use mathlib.Core.Bool.{Bool, true, false, cond, ◌&&◌, and-eq-true_iff}
+use mathlib.Core.Bool.{Bool, true, false, cond, and-eq-true_iff}
 use mathlib.Core.List.{List, [], ◌∷◌}
 use mathlib.Core.Logic.{⊎_elim}
-use Prim.Native.Nat.{ℕ, zero, suc, ◌+◌, ◌-◌, ◌*◌, ◌≤◌, ◌<◌}
+use Prim.Native.Nat.{ℕ, ◌+◌, ◌-◌, ◌≤◌, ◌<◌}
 use native.Mathlib.Nat.{eq-zero-or-pos, add-zero}
 use native.Mathlib.Numerals.{add-one}
 use native.Mathlib.Omega.{arith}
@@ -11,7 +11,7 @@ use lib.Dec.{eqb, leb}
 use lib.ListN.{length, get_or, take, drop, length-take, length-drop, drop_of_length-le}
 use lib.Seq.{drop-cons, drop-drop, take_all}
 use borrow.Author.Tests.{eqb-true, leb-true, le-leb, lt-leb}
-use Rattle.capture.specs.Capture.{Field, field, others, told, content, stands, taken, fields, size, place89, has89, holds, information}
+use Rattle.capture.specs.Capture.{field, others, told, content, stands, taken, fields, size, place89, has89, holds, information}
 
 -- A field that stands has all its bytes.
 pub all_there : (tag : ℕ) (rest : List ℕ) → stands tag rest ≡ true → 3 + told rest ≤ length rest

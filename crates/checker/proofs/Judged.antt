@@ -18,7 +18,7 @@ use Rattle.page83_drive.specs.Descriptor.{drive_descriptor}
 use Rattle.page83.specs.Page83.{page83}
 use Rattle.pages.specs.Page.{standard, page00, page80, page89}
 use Rattle.packet.specs.Packet.{packet_drive}
-use Rattle.capture.specs.Capture.{Field, field, others, fields, information, holds, end}
+use Rattle.capture.specs.Capture.{Field, others, fields, information, holds, end}
 use Rattle.capture.specs.Layout.{LaidOut, BrokenAt}
 use Rattle.capture.proofs.LaidOut.{laid_fields, laid_page, laid_holds, holds_laid, broken_there, broken_fails, broken_ends}
 use Rattle.capture.proofs.Laws.{length_information}
@@ -29,7 +29,7 @@ use Rattle.checker_drive.proofs.Furthest.{claimed_address_is, furthest, own_page
 use Rattle.checker.specs.declared.Checked.{Checked}
 use Rattle.checker.specs.Check.{texts_of, signature_of, block_of, ours, expected, accepted, differs, refused, judged, check}
 use Rattle.checker.specs.Judged.{Choice, Written, DifferAt, Furthest, Judgeable, all, Acceptable, AtFault, OfAPacketDrive, OfADamagedBlock}
-use Rattle.checker.proofs.Judging.{fault, broken, packet_drives, damaged_block_is, in_order}
+use Rattle.checker.proofs.Judging.{broken, packet_drives, damaged_block_is, in_order}
 
 -- How far two runs agree is where they differ.
 differ_at : (s t : List ℕ) → DifferAt s t (agreed s t)

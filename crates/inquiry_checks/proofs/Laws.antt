@@ -5,7 +5,7 @@ use mathlib.Core.List.{List}
 use Prim.Native.Nat.{ℕ, ◌≤◌}
 use lib.Dec.{eqb, ltb}
 use lib.ListN.{length, take, drop}
-use borrow.Author.Tests.{eq-eqb, ne_eqb, eqb-true, eqb-false, ltb-false, not-false}
+use borrow.Author.Tests.{ne_eqb, eqb-true, eqb-false, ltb-false, not-false}
 use Rattle.rules.proofs.First.{silent, neither, first_answers, second_answers}
 use Rattle.refusals.specs.Helpers.{Roomy}
 use Rattle.refusals.proofs.Table.{roomy_unless}

@@ -1,16 +1,15 @@
 -- The pages' lengths, over the pieces that they are made of.
-use mathlib.Core.Path.{◌≡◌, refl, ◌∙◌}
+use mathlib.Core.Path.{◌≡◌}
 use mathlib.Core.Bool.{Bool}
-use mathlib.Core.List.{List, [], ◌∷◌, ◌++◌}
-use Prim.Native.Nat.{ℕ, ◌+◌, ◌-◌, ◌≤◌, min}
+use mathlib.Core.List.{List}
+use Prim.Native.Nat.{ℕ, ◌+◌}
 use native.Mathlib.Omega.{arith}
 use lib.ListN.{length, take, length-append, length-take}
 use Rattle.identify.specs.Block.{serial, firmware, model}
-use Rattle.texts.specs.Text.{turned, spaced, revision}
+use Rattle.texts.specs.Text.{turned}
 use Rattle.identify.proofs.Block.{length_serial, length_firmware, length_model}
 use Rattle.texts.proofs.Text.{length_turned, length_spaced, length_revision}
-use Rattle.page83_drive.specs.Descriptor.{ata}
-use Rattle.pages.specs.Page.{standard, page00, page80, page89, type_byte, command_code, block_or_zeros}
+use Rattle.pages.specs.Page.{standard, page80, page89, block_or_zeros}
 
 -- Of a whole block.
 module _ (block : List ℕ) (h : length block ≡ 512) where

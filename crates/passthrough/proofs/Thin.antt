@@ -16,7 +16,7 @@ use mathlib.Core.Bool.{Bool, not}
 use Prim.Native.Nat.{ℕ, suc}
 use mathlib.Core.List.{[], ◌∷◌, List}
 use seplogic.Ra.Ura.{Ura}
-use seplogic.Ra.TreeShare.{full_share}
+use base.Fraction.{full_share}
 use lib.Dec.{T as Holds}
 use mir.Syntax.{Fn, Place, Opd as Operand, Rv as RValue, Body as Stmt, skip, seq, assign, cond}
 use mir.Raw.{raw as raw_ty}
@@ -44,7 +44,7 @@ use denote.Triple.Clauses.{Ended, Clauses, at_exit, closing}
 use denote.Triple.End.{Kepts, Fins, lasts_of}
 use denote.Triple.Entry.{Args, Vals, on_entry}
 use denote.Triple.Spec.{Meets}
-use denote.Triple.Walked.{Stay, Stays, fits_of, has_of, Goes, AllGo, stay_ref, Goes-ref, walk_of, ends_at, walked, walk_Meets}
+use denote.Triple.Walked.{Stay, Stays, fits_of, has_of, AllGo, stay_ref, Goes-ref, walk_of, ends_at, walked, walk_Meets}
 use Rattle.passthrough.specs.declared.Pending.{Pending}
 use Rattle.passthrough.specs.contracts.Pending as T
 use Rattle.passthrough.proofs.Pending.TheLaws as T'
@@ -135,14 +135,14 @@ module _ (m : ℕ) (ss : List (Slot (suc m))) (ks : Kepts ss) (Out : RattleType)
 
     pub exits : (κs : Lfts (suc m)) (qs : Shares (suc m)) (a : Args ended_of.signature κs) (vs : Valss (types_at ss κs)) (g : (c κs a).ghost) (h : Pending) (w : Fins κs ss ks a.1) (r : Out.Denot) (v : Val)
         → ent 𝓤 (emp 𝓤) ((c κs a).ensures g r (at_exit ended_of κs a (h, w))) → ent 𝓤 (emp 𝓤) (sem 𝓛 (Out.own_val r (v ∷ [])))
-        → ent 𝓤 (⋆ 𝓛 (‵ (fobs a.0.name (Code h)) ∷ ‵ (fbor κs.0 (Body (mem T.the_row) a.0.ptr.0 a.0.ptr.1 a.0.name)) ∷ ‵ (flft κs.0 qs.0) ∷ raw (toks 𝓛 m κs.1 qs.1) ∷ ‵ (lasts_of κs ss ks a.1 w) ∷ []))
-        (PostAt κs qs a (vptr a.0.ptr.0 a.0.ptr.1 ∷ [], vs) g v)
+        → ent 𝓤 (⋆ 𝓛 (‵ (fobs a.0.ghost_name (Code h)) ∷ ‵ (fbor κs.0 (Body (mem T.the_row) a.0.ref_ptr.0 a.0.ref_ptr.1 a.0.ghost_name)) ∷ ‵ (flft κs.0 qs.0) ∷ raw (toks 𝓛 m κs.1 qs.1) ∷ ‵ (lasts_of κs ss ks a.1 w) ∷ []))
+        (PostAt κs qs a (vptr a.0.ref_ptr.0 a.0.ref_ptr.1 ∷ [], vs) g v)
     exits κs qs a vs g h w r v said made =
-        let b : ℕ = a.0.ptr.0 in
-        let o : ℕ = a.0.ptr.1 in
+        let b : ℕ = a.0.ref_ptr.0 in
+        let o : ℕ = a.0.ref_ptr.1 in
         let L : Fml = lasts_of κs ss ks a.1 w in
         let E : SProp 𝓤 = (c κs a).ensures g r (at_exit ended_of κs a (h, w)) in
-        qed 𝓛 (‵ (fobs a.0.name (Code h)) ∷ ‵ (fbor κs.0 (Body (mem T.the_row) b o a.0.name)) ∷ ‵ (flft κs.0 qs.0) ∷ raw (toks 𝓛 m κs.1 qs.1) ∷ ‵ L ∷ []) ∵
+        qed 𝓛 (‵ (fobs a.0.ghost_name (Code h)) ∷ ‵ (fbor κs.0 (Body (mem T.the_row) b o a.0.ghost_name)) ∷ ‵ (flft κs.0 qs.0) ∷ raw (toks 𝓛 m κs.1 qs.1) ∷ ‵ L ∷ []) ∵
         suffices ! _ (ends_at 𝓛 ended_of stayed_of c ((κs, qs, tt, a, (vptr b o ∷ [], vs)), g) v r (h, w) (tt, fit_on κs ss ks a.1 w)) $
         feq_i ! (List Val) (vptr b o ∷ []) (vptr b o ∷ []) refl $ fjoin3 ! $ move ! (3 ∷ []) $ recast 𝓛 (‵ (has_of κs ss ks (all_on ss ks) a.1 w vs)) (ap (sem 𝓛) (had_on κs ss ks a.1 w vs)) $ move ! (1 ∷ 0 ∷ []) $ fjoin ! $
         -- [what is had of the parameters; the record's token; the others']

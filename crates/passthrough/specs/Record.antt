@@ -1,5 +1,5 @@
 -- The record of what is pending: nothing, an order, or an order with a reset over it (RULES 9).
-use Rattle.std.specs.Prelude.{Bool, cond, not, ◌&&◌, ◌||◌, ℕ, eqb}
+use Rattle.std.specs.Prelude.{Bool, cond, not, ◌&&◌, ◌||◌, eqb}
 use Rattle.passthrough_order.specs.declared.Order.{Order}
 use Rattle.passthrough_order.specs.Order.{no_order, reset}
 use Rattle.passthrough.specs.declared.Pending.{Pending}

@@ -44,6 +44,7 @@ const TABLE: [[u8; 3]; 24] = [
 
 // Key, ASC and ASCQ of a refusal: its row of the array, and row 0 past it. Each index is a number that the compiler knows; where it
 // does not, it lays out the whole array on the stack.
+#[tactic(auto, unfolding(crate::specs::Refusal::row_of))]
 fn code(number: u8) -> [u8; 3]
     ensures { result ≡ three_bytes (row_of number) }
 {

@@ -1,5 +1,5 @@
 -- The roll: which drive each block of a run is (RULES 11).
-use Rattle.std.specs.Prelude.{Bool, true, false, cond, ◌||◌, not, List, [], ◌∷◌, ◌++◌, map, ℕ, zero, suc, ◌*◌, ◌/◌, ◌%◌, eqb, ltb, length, take, drop}
+use Rattle.std.specs.Prelude.{Bool, false, cond, ◌||◌, not, List, [], ◌∷◌, ◌++◌, map, ℕ, zero, suc, ◌*◌, ◌/◌, ◌%◌, eqb, ltb, length, take, drop}
 use Rattle.rules.specs.First.{Check, ◌when◌, first}
 use Rattle.room.specs.Room.{written}
 use Rattle.checksum.specs.Checksum.{any_damaged}

@@ -1,18 +1,18 @@
 -- What both forms carry agrees, and is read back from the room that it was written to.
 use mathlib.Core.Path.{◌≡◌, refl, sym, ap, ◌∙◌}
-use mathlib.Core.Bool.{Bool, true, false, cond, ◌||◌, not}
+use mathlib.Core.Bool.{Bool, true, false, ◌||◌, not}
 use mathlib.Core.List.{List}
 use Prim.Native.Nat.{ℕ, ◌+◌, ◌*◌, ◌≤◌, ◌<◌}
 use native.Mathlib.Omega.{arith}
 use lib.Dec.{eqb}
-use lib.ListN.{length, get_or, take}
+use lib.ListN.{length, get_or}
 use lib.Seq.{get_or-take}
 use Rattle.rules.specs.Bits.{bit, flag}
 use Rattle.room.specs.Room.{written}
 use Rattle.room.proofs.Laws.{front}
 use Rattle.sense_fixed.specs.Fixed.{nonzero, fixed_sense}
 use Rattle.sense.specs.Sense.{Told, nothing, registers, upper, is_fixed, descriptor_sense, sense_data}
-use Rattle.sense.specs.Carried.{Carried, sensed, in_fixed, in_descriptor}
+use Rattle.sense.specs.Carried.{sensed, in_fixed, in_descriptor}
 
 -- Three bits of a byte, each read alone.
 abbrev three : Bool → Bool → Bool → ℕ

@@ -1,8 +1,7 @@
 -- Laws of sense data.
 use mathlib.Core.Path.{◌≡◌, refl}
 use mathlib.Core.Bool.{Bool, true, false, cond}
-use mathlib.Core.List.{List}
-use Prim.Native.Nat.{ℕ, ◌≤◌}
+use Prim.Native.Nat.{ℕ}
 use lib.ListN.{length}
 use Rattle.sense_fixed.specs.Fixed.{fixed_sense}
 use Rattle.sense.specs.Sense.{is_fixed, descriptor_sense, sense_data, nothing}

@@ -1,22 +1,22 @@
 -- Blocks fed one after another: none that a census can count is refused, each of those is counted once in every grouping, and any
 -- other in none.
-use mathlib.Core.Path.{◌≡◌, refl, sym, ap, subst, ◌∙◌}
+use mathlib.Core.Path.{◌≡◌, refl, sym, ap, ◌∙◌}
 use mathlib.Core.Bool.{Bool, true, false, cond, not, ◌&&◌, and-eq-true_iff, true≢false}
 use mathlib.Core.List.{List, [], ◌∷◌}
-use Prim.Native.Nat.{ℕ, suc, ◌+◌, ◌-◌, ◌≤◌, ◌<◌}
+use Prim.Native.Nat.{ℕ, ◌+◌, ◌-◌, ◌≤◌, ◌<◌}
 use native.Mathlib.Omega.{arith}
 use lib.Dec.{eqb}
-use lib.ListN.{length, get_or, set, length-set, get_or-replicate, length-replicate}
+use lib.ListN.{length, get_or, length-set}
 use lib.Seq.{get_or-set_same, get_or-set_other}
 use borrow.Author.Tests.{eq-eqb, ne_eqb, eqb-true, eqb-false, not-true}
 use Rattle.rules.specs.Bits.{flag}
 use Rattle.checksum.specs.Checksum.{sum_of, damaged}
 use Rattle.identify.specs.Names.{carries_name}
-use Rattle.classes.specs.Classes.{ultra_dma, major_version}
+use Rattle.classes.specs.Classes.{major_version}
 use Rattle.classes.proofs.Masked.{mode_within, version_within}
 use Rattle.tally.specs.declared.Census.{Census}
-use Rattle.tally.specs.Census.{census, empty, uneven, closed, refusal_of, raised, counted, answer, feed, mode_place, version_place}
-use Rattle.tally.specs.Fleet.{feed_all, count_of, countable, countables, Countable, no_more, more}
+use Rattle.tally.specs.Census.{empty, uneven, closed, refusal_of, raised, counted, answer, feed, mode_place, version_place}
+use Rattle.tally.specs.Fleet.{feed_all, count_of, countable, countables, Countable, more}
 use Rattle.tally.proofs.Laws.{sum_raised}
 
 -- What feeding leaves true of a census.

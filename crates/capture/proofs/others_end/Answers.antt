@@ -1,5 +1,4 @@
 -- `others_end`: before turn k the fields before `at` are read.
-use Prim.Native.Nat.{◌-◌}
 use Rattle.capture.proofs.Laws.{none_read, read_on, all_read, to_the_end}
 use Rattle.capture.proofs.others_end.Goals as goal
 

@@ -1,5 +1,4 @@
 -- `total`: before turn i the first i bytes are added up.
-use Rattle.std.proofs.Common.{◌-◌}
 use Rattle.checksum.proofs.Laws.{more, all_summed}
 use Rattle.checksum.proofs.total.Goals as goal
 

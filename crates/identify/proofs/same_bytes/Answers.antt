@@ -1,7 +1,7 @@
 -- `same_bytes`: every byte passed is the same in both.
 use mathlib.Core.Path.{ap, sym}
 use mathlib.Core.List.{List}
-use Prim.Native.Nat.{ℕ, ◌-◌}
+use Prim.Native.Nat.{ℕ}
 use native.Mathlib.Omega.{arith}
 use lib.ListN.{length, get_or}
 use lib.Seq.{ext_get_or}

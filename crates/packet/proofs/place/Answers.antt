@@ -1,5 +1,4 @@
 -- `place`: every code passed is below 89h.
-use Prim.Native.Nat.{◌-◌}
 use native.Mathlib.Omega.{arith}
 use Rattle.packet.proofs.Laws.{below_is}
 use borrow.Author.Rules.{rules}

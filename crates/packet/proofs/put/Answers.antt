@@ -8,11 +8,11 @@ use Rattle.packet.proofs.put.Goals as goal
 
 pub overflow_cast-head : goal.overflow_cast-head
 overflow_cast-head c =
-                let byte = (c.shared_slice_known-1.given 3).fits in
+    let byte = (c.shared_slice_known-1.given 3).fits in
     omega (arith, rw c.listed-codes.ensures at c.count-n.ensures.0, length_fits c.args.reply.now byte c.requires)
 
 pub returns : goal.returns
 unfolding page00
 returns c =
-                rw (← c.listed-codes.ensures, ← c.count-n.ensures.0, ← c.byte.ensures, ← c.byte-2.ensures)
+    rw (← c.listed-codes.ensures, ← c.count-n.ensures.0, ← c.byte.ensures, ← c.byte-2.ensures)
     (beside c.put_short.ensures c.put_codes.ensures refl)

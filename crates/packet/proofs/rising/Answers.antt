@@ -7,7 +7,7 @@ use Rattle.packet.proofs.rising.Goals as goal
 
 pub returns-then-codes-i : goal.returns-then-codes-i
 returns-then-codes-i c =
-        let i = c.loop-i.i in
+    let i = c.loop-i.i in
     let one : suc (i - 1) ≡ i = omega arith in
     sym (falls_at c.args.codes.now (i - 1) (omega arith) (rw one c.if-codes-i.true))
 

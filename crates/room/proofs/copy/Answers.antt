@@ -1,5 +1,4 @@
 -- `copy`: before turn i the first i bytes stand in the room, and what is left to write takes the room to where it is to be.
-use Prim.Native.Nat.{◌-◌}
 use native.Mathlib.Omega.{arith}
 use Rattle.room.proofs.Laws.{done}
 use Rattle.room.proofs.copy.Goals as goal

@@ -1,7 +1,6 @@
 -- `put_each`: byte by byte.
 use mathlib.Core.Path.{refl}
 use mathlib.Core.List.{map}
-use Prim.Native.Nat.{◌-◌}
 use native.Mathlib.Omega.{arith}
 use Rattle.room.proofs.Laws.{turn, next, done}
 use Rattle.texts.specs.Text.{turned}
