@@ -1,12 +1,12 @@
 -- The laws of cutting and turning, proved.
 use mathlib.Core.Path.{◌≡◌, refl, ap, ◌∙◌, sym}
-use mathlib.Core.List.{List, [], ◌∷◌, map}
+use mathlib.Core.List.{List, [], ◌∷◌}
 use Prim.Native.Nat.{ℕ, zero, suc, ◌*◌, min}
 use native.Mathlib.Omega.{arith}
 use lib.Dec.{eqb-suc-zero}
 use lib.ListN.{length, take}
 use lib.Seq.{take_all, take-nil}
-use Rattle.texts.specs.Text.{turned, space, spaced}
+use Rattle.texts.specs.Text.{turned, space}
 use Rattle.laws.specs.Laws.{CutTwice, CutInEitherOrder, CutToMore, CutToTheSize, TurnedTwice, SpacedTwice, TurnedEach, TurnedSpaced, CutTurned}
 
 -- The lesser of nothing and n, and of two numbers that are one more.

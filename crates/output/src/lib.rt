@@ -26,6 +26,7 @@ pub fn digit(number: u8) -> u8
 }
 
 // What is shown for a byte of a text.
+#[tactic(auto, unfolding(crate::specs::Shown::shown))]
 pub fn show(byte: u8) -> Shown
     ensures counts { IsPrefixLen result.count result.bytes }
     ensures shows { take result.count result.bytes ≡ shown byte }

@@ -14,6 +14,7 @@ pub enum Wanted {
 }
 
 // What a word asks for.
+#[tactic(auto, unfolding(crate::specs::Words::wanted_by))]
 pub fn word_wants(word: &[u8]) -> Wanted
     ensures { result ≡ wanted_by word.now }
 {
