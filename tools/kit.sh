@@ -5,7 +5,7 @@
 #   kit_archive   the library, made anew where it is not that of the sources at hand
 #   kit_include   the folder of its header
 #   kit_version   the version that the header tells, which the programs have too
-#   kit_run       how an x86-64 program is run: by an emulator, or as it is where the machine is one
+#   kit_run       how an x86-64 program is run: by Debian's emulator, or as it is where the machine is one
 # Where it cannot, kit_problem says why. The variables PIONGSEUT_ARCHIVE, PIONGSEUT_INCLUDE and PIONGSEUT_EMULATOR name others.
 kit_root=$(cd "$(dirname "${BASH_SOURCE[0]}")/.." && pwd)
 kit_include=${PIONGSEUT_INCLUDE:-$kit_root/include}
@@ -29,35 +29,20 @@ kit_compiler() {
 }
 
 kit_emulator() {
-    local emulator=${PIONGSEUT_EMULATOR:-}
+    local emulator=${PIONGSEUT_EMULATOR:-qemu-x86_64}
     [ "$(uname -m)" = x86_64 ] && return
-    [ -n "$emulator" ] || emulator=$(dirname "$(dirname "$(rt doc)")")/on/$(uname -m)/toolchain/bin/qemu-x86_64
     kit_run=("$emulator")
-    [ -x "$emulator" ] || { kit_problem="no emulator $emulator"; return 1; }
-}
-
-# One line for the sources, the toolchain and the library: the same line is the same library.
-kit_made_of() {
-    rt version
-    { find crates crates.txt -type f -print0 | LC_ALL=C sort -z | xargs -0 sha256sum; sha256sum "$1"; } 2>&1 | sha256sum
+    command -v "$emulator" >/dev/null || { kit_problem="no emulator $emulator"; return 1; }
 }
 
 # kit_programs NAME..: these programs in target/bin, made anew where they are not those of the sources at hand.
 kit_programs() {
-    kit_does "rt check $* fails" "$kit_root/tools/rt" check "$@"
+    kit_does "tools/build $* fails" "$kit_root/tools/build" "$@"
 }
-
-# rt staticlib takes as long where nothing has changed, so it is asked only where something has; by one suite at a time.
-kit_build() (
-    archive=target/staticlib/libpiongseut.a
-    cd "$kit_root" && mkdir -p target/staticlib && exec 9>target/staticlib/lock && flock 9 || exit
-    [ "$(kit_made_of "$archive")" != "$(cat target/staticlib/made-of 2>/dev/null)" ] || exit 0
-    tools/rt staticlib piongseut && kit_made_of "$archive" >target/staticlib/made-of
-)
 
 kit_library() {
     kit_archive=${PIONGSEUT_ARCHIVE:-$kit_root/target/staticlib/libpiongseut.a}
-    [ -n "${PIONGSEUT_ARCHIVE:-}" ] || kit_does 'rt staticlib piongseut fails' kit_build || return
+    [ -n "${PIONGSEUT_ARCHIVE:-}" ] || kit_programs piongseut || return
     [ -f "$kit_archive" ] || { kit_problem="no library $kit_archive"; return 1; }
     [ -f "$kit_include/piongseut.h" ] || { kit_problem="no piongseut.h in $kit_include"; return 1; }
 }

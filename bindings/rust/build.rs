@@ -1,5 +1,5 @@
 //! Finds libpiongseut.a: in the folder that PIONGSEUT_LIB_DIR names, else where
-//! `pkg-config` says that it was installed, else where `rt staticlib piongseut`
+//! `pkg-config` says that it was installed, else where `tools/build piongseut`
 //! leaves it in the repository. Where it is in none of them, or is not for the
 //! target, this ends with one line that says so.
 
@@ -74,7 +74,7 @@ fn installed() -> Result<PathBuf, String> {
     Err("pkg-config knows of no piongseut".to_string())
 }
 
-/// Where the toolchain leaves it, in the repository that this crate is part of.
+/// Where the repository's tools/build leaves it, in the repository that this crate is part of.
 fn built() -> PathBuf {
     let here = env::var_os("CARGO_MANIFEST_DIR").unwrap_or_default();
     Path::new(&here).join("../../target/staticlib")
