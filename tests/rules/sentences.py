@@ -198,9 +198,9 @@ def refusals_that_differ(tree):
 # ---- The order of checks
 
 # For each entry the file and the definition that lists its checks; of those that make one check, the definition that has its number.
-LISTS = {"inquiry": ("inquiry_checks/specs/Checks", "checks"), "submit": ("passthrough_checks/specs/Checks", "checksOf"),
-         "complete": ("passthrough/specs/Complete", "checksOf"), "write": ("page83/specs/Page83", "checks"),
-         "roll": ("roll/specs/Roll", "checks"), "gather": ("gathering/specs/Gathering", "gatherChecks"),
+LISTS = {"inquiry": ("inquiry_checks/specs/Checks", "checks"), "submit": ("passthrough_checks/specs/Checks", "checks_of"),
+         "complete": ("passthrough/specs/Complete", "checks_of"), "write": ("page83/specs/Page83", "checks"),
+         "roll": ("roll/specs/Roll", "checks"), "gather": ("gathering/specs/Gathering", "gather_checks"),
          "feed": ("tally/specs/Census", "checks"), "check": ("checker/specs/Check", "checks")}
 SINGLE = {"read": ("page83_reader/specs/Reader", r"^refused =.*?number = (\d+);"),
           "take": ("intake/specs/Intake", r"\(answer held 0 (\d+) 0\)"), "block": ("intake/specs/Intake", r"\(offer (\d+) 0\) \(cond"),
@@ -291,7 +291,7 @@ def words_of_rules(tree):
     """The words that definitions read, by number or from one to another; and word 255, of which they read a byte."""
     text = "\n".join(re.sub(r"--.*", "", tree.text(path)) for path in tree.files("crates/*/specs/*.antt"))
     single = {int(word) for word in re.findall(r"\bword \w+ (\d+)", text)}
-    by_byte = {int(byte) // 2 for byte in re.findall(r"getD block (\d+) ", text)}
+    by_byte = {int(byte) // 2 for byte in re.findall(r"\b(?:get_or|slice_index) block (\d+)\b", text)}
     runs = re.findall(r"\b(?:words|SameWords|SomeWord|NoWord) (\d+) (\d+) ", text)
     return single | by_byte | {word for first, last in runs for word in range(int(first), int(last) + 1)}
 
@@ -310,38 +310,51 @@ def words_told_wrong(tree):
 
 
 def functions(tree, path):
-    """The public functions of a source file: name, head up to the body, and what each `ensures` says."""
+    """The public functions of a source file: name, signature, and what each `ensures` says. The body begins with a { at the end of the
+    signature's line, or with one that stands alone in a line behind the clauses."""
     text = tree.text(path)
     module = "" if path.endswith("/lib.rt") else pathlib.Path(path).stem + "::"
     for start in re.finditer(r"^( *)pub (?:extern \"C\" )?fn (\w+)", text, re.M):
-        head = text[start.start():text.index("\n%s{" % start[1], start.end())]
+        body = re.compile(r"\n%s\{$|^(?! *(?:requires|ensures)\b).* \{$" % start[1], re.M).search(text, start.start())
+        head = text[start.start():body.start() if body[0].startswith("\n") else body.end()]
         name = "%s::%s%s" % (path.split("/")[1], module, start[2])
-        yield name, head.split("ensures")[0], re.findall(r"ensures \w* ?\{ λ \w+\. ⌜ (.*?) ⌝ \}", head)
+        signature, *clauses = re.split(r"\n *(?=(?:requires|ensures)\b)", head)
+        said = (re.fullmatch(r"ensures (?:\w+ )?\{\s*(.*?)\s*\}", clause, re.S) for clause in clauses)
+        yield name, signature, [found[1] for found in said if found]
 
 
 def parts_of(clause):
-    """What a clause says one beside the other: `(a) × (b)`."""
-    return clause[1:-1].split(") × (") if clause.startswith("(") and ") × (" in clause else [clause]
+    """What a clause says one beside the other: `a × (b)`."""
+    parts, depth = [""], 0
+    for word in re.findall(r"[()]| × |[^()×]+", clause):
+        depth += (word == "(") - (word == ")")
+        if word == " × " and not depth:
+            parts.append("")
+        else:
+            parts[-1] += word
+    if len(parts) == 1:
+        return parts
+    return [inner for part in parts for inner in parts_of(re.sub(r"\A\((.*)\)\Z", r"\1", part.strip(), flags=re.S))]
 
 
 def settled_by(part, relations):
-    """Of result (r) and lent pieces those that a part of a clause settles."""
+    """Of the result and lent pieces those that a part of a clause settles."""
     left, equation, _ = part.partition(" ≡ ")
     head = re.split(r"[ ·]", left if equation else part)
-    exits = re.findall(r"\((\w+) \.exit\)", left)
-    if equation and (left in ("r", "now r", "r .0") or head[0] in relations):
-        return {"r"}
-    if equation and re.fullmatch(r"now \(\w+ \.exit\)", left):
-        return set(exits)
+    lent = re.findall(r"\b(\w+)\.new\b", left)
+    if equation and (left in ("result", "result.now", "result.0") or head[0] in relations):
+        return {"result"}
+    if equation and re.fullmatch(r"\w+\.new(?:\.now)?", left):
+        return set(lent)
     if equation and re.match(r"(\w+·)?\w*[oO]utcome ", left) or not equation and head[0] in relations:
-        return set(exits) | ({"r"} if re.search(r"\br\b(?! \.)", left) else set())
+        return set(lent) | ({"result"} if re.search(r"\bresult\b(?!\.)", left) else set())
     return set()
 
 
 def open_functions(tree, relations):
     for path in tree.files("crates/*/src/*.rt"):
         for name, head, clauses in functions(tree, path):
-            owed = set(re.findall(r"(\w+): &(?:'\w+ )?mut ", head)) | ({"r"} if ") -> " in head else set())
+            owed = set(re.findall(r"(\w+): &(?:'\w+ )?mut ", head)) | ({"result"} if ") -> " in head else set())
             settled = [settled_by(part, relations) for clause in clauses for part in parts_of(clause)]
             if owed - set().union(*settled):
                 yield name
