@@ -371,12 +371,13 @@ def contracts_told_wrong(tree):
         yield "the relations are not told: %s" % relations
 
 
-def walks_told_wrong(tree):
+def proofs_told_wrong(tree):
     """How long the proofs of the functions over a lent record are, of which DECISIONS says what a third would cost."""
-    told = re.search(r"(\d+) and (\d+) lines \(`piongseut/proofs`\); what the two share stands once, in (\d+)", tree.prose(DECISIONS))
-    files = ("piongseut/proofs/piongseut_submit/Proof", "piongseut/proofs/piongseut_complete/Proof", "passthrough/proofs/Thin")
-    counted = [(file, tree.text("crates/%s.antt" % file).count("\n")) for file in files]
-    return ["%s has %d lines" % (file, lines) for (file, lines), said in zip(counted, told.groups()) if lines != int(said)]
+    told = re.search(r"(\d+) and (\d+) lines \(`piongseut/proofs`\)", tree.prose(DECISIONS))
+    for name, said in zip(("piongseut_submit", "piongseut_complete"), told.groups()):
+        lines = sum(tree.text(path).count("\n") for path in tree.files("crates/piongseut/proofs/%s/*.antt" % name))
+        if lines != int(said):
+            yield "%s is proved in %d lines" % (name, lines)
 
 
 # ---- The real blocks
@@ -412,7 +413,7 @@ CHECKS = {
     "RULES, header and crate give the order of checks of the rules": orders_that_differ,
     "RULES tells the words that are read, and their bytes": words_told_wrong,
     "STATEMENTS lists the contracts that leave something open": contracts_told_wrong,
-    "DECISIONS tells how long the walks are": walks_told_wrong,
+    "DECISIONS tells how long the proofs over the lent record are": proofs_told_wrong,
     "the rows of data/identify are those of its blocks": blocks_told_wrong,
 }
 

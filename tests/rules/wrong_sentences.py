@@ -15,7 +15,7 @@ REFUSALS = "a refusal has one sentence, status and key in RULES, header and crat
 ORDERS = "RULES, header and crate give the order of checks of the rules"
 WORDS = "RULES tells the words that are read, and their bytes"
 CONTRACTS = "STATEMENTS lists the contracts that leave something open"
-WALKS = "DECISIONS tells how long the walks are"
+PROOFS = "DECISIONS tells how long the proofs over the lent record are"
 BLOCKS = "the rows of data/identify are those of its blocks"
 
 RULES, DECISIONS, STATEMENTS = "docs/RULES.md", "docs/DECISIONS.md", "docs/STATEMENTS.md"
@@ -69,7 +69,7 @@ WRONG = [Wrong(*row) for row in (
      "packet::size leaves something open"),
     (CONTRACTS, "crates/refusals/src/lib.rt", "    ensures status { result ≡ (row_of number).status }\n", "",
      "refusals::refuse leaves something open"),
-    (WALKS, "crates/passthrough/proofs/Thin.antt", "\n-- Assumes `Given`.", "", "passthrough/proofs/Thin has "),
+    (PROOFS, DECISIONS, " lines (`piongseut/proofs`)", "0 lines (`piongseut/proofs`)", "piongseut_complete is proved in "),
     (BLOCKS, README, "| TOSHIBA MK1651GSY | 38IGT0G5T | LD001D |", "| TOSHIBA MK1651GSY | LD001D | 38IGT0G5T |", "TOSHIBA"),
     (BLOCKS, README, "50000390e178422c | serial number |", "50000390e178422c | firmware |", "TOSHIBA"),
     (BLOCKS, README, "`ST320410A--3.39.bin`", "`ST320410A--3.40.bin`", "ST320410A--3.40.bin"),
