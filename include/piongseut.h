@@ -22,9 +22,9 @@
  *  - The code keeps values in the red zone, the 128 bytes below the stack pointer: where interrupts share the stack of what they
  *    interrupt, a handler that may interrupt a call has to skip them.
  *  - The stack pointer is a multiple of 16 at a call, as always in C: a handler that is not entered as a C function aligns it.
- *  - Stack, with the return address and the arguments that go by the stack: piongseut_submit 232 bytes, piongseut_build 216,
- *    piongseut_census_feed 200, piongseut_inquiry 184, piongseut_check 184, piongseut_read_page83 128, piongseut_write_page83 104,
- *    piongseut_intake_gather 96, every other function 64 or less (the most over all paths of the compiled code, and seen:
+ *  - Stack, with the return address and the arguments that go by the stack: piongseut_inquiry 256 bytes, piongseut_submit 248,
+ *    piongseut_build 216, piongseut_census_feed 208, piongseut_read_page83 128, piongseut_check 104, piongseut_intake_gather 96,
+ *    piongseut_write_page83 88, every other function 80 or less (the most over all paths of the compiled code, and seen:
  *    docs/PERFORMANCE.md).
  *
  * Bytes stand in SCSI's order: two-byte lengths high byte first, IDENTIFY words as the drive sends them.
