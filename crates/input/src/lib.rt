@@ -3,13 +3,25 @@
 // asks for is in `program_words`.
 #![tactic(auto)]
 
+mod complaints;
 pub mod parts;
 
 ghost use Rattle.std.specs.Prelude.{◌≤◌, ◌≡◌, length, take};
 ghost use Rattle.io.specs.Counts.{IsPrefixLen};
 
-use libc::{STDERR_FILENO, STDIN_FILENO};
+use complaints::{complain_as, complain_of_file, complain_of_standard};
 use program_words::Wanted;
+use std::env::FillError;
+use std::fs::File;
+use std::io::{Error, ErrorKind, Input, Read, Result};
+use std::rt::{Env, Files};
+
+const STDERR_FILENO: i32 = 2;
+
+// What a program is given by the system: its words, files by their names, and standard input.
+pub trait System: Env + Files<File = File> + Input {}
+
+impl System for HostRuntime {}
 
 // What is wanted, and how many bytes came.
 #[derive(Clone, Copy)]
@@ -18,13 +30,40 @@ pub struct Got {
     pub count: usize,
 }
 
-// Whether word i names a file. One that is too long for a file's name does not.
-fn names_file(i: usize) -> bool {
-    let mut word = io::buffer();
-    let n = os::arg(i, &mut word);
-    if os::errno() != 0 {
-        return false;
+// Whether there is a word i, of whatever size.
+fn has_word(rt: &impl System, i: usize) -> bool {
+    match rt.arg(i, &mut []) {
+        Ok(_) => true,
+        Err(FillError::TooLong) => true,
+        Err(FillError::NotPresent) => false,
     }
+}
+
+// How many words there are, the program's name among them.
+fn word_count(rt: &impl System) -> usize {
+    let mut i = 0;
+    while i < usize::MAX && has_word(rt, i) {
+        i += 1;
+    }
+    i
+}
+
+// The size of word i, whose bytes are then at the start of the buffer; 0 where it is missing or does not fit.
+fn word_into(rt: &impl System, i: usize, buffer: &mut [u8]) -> usize
+    ensures { IsPrefixLen result buffer.new }
+{
+    match rt.arg(i, buffer) {
+        Ok(n) => n,
+        Err(_) => 0,
+    }
+}
+
+// Whether word i names a file. One that is too long for a file's name does not.
+fn names_file(rt: &impl System, i: usize) -> bool {
+    let mut word = io::buffer();
+    let Ok(n) = rt.arg(i, &mut word) else {
+        return false;
+    };
     match program_words::word_wants(&word[..n]) {
         Wanted::Read => true,
         Wanted::Help => false,
@@ -34,21 +73,15 @@ fn names_file(i: usize) -> bool {
 }
 
 // The place of the first word that names no file, and `words` where all do.
-fn first_option(words: usize) -> usize {
+fn first_option(rt: &impl System, words: usize) -> usize {
     let mut i = 1;
     while i < words {
-        if !names_file(i) {
+        if !names_file(rt, i) {
             return i;
         }
         i += 1;
     }
     i
-}
-
-// The start of a complaint: the program's name.
-fn complain_as(program: &[u8]) {
-    io::write_all(STDERR_FILENO, program);
-    io::write_all(STDERR_FILENO, b": ");
 }
 
 fn complain_of_option(program: &[u8], word: &[u8]) {
@@ -60,16 +93,15 @@ fn complain_of_option(program: &[u8], word: &[u8]) {
 }
 
 // What is wanted by word i, which names no file.
-fn option(program: &[u8], i: usize) -> Wanted {
+fn option(rt: &impl System, program: &[u8], i: usize) -> Wanted {
     let mut word = io::buffer();
-    let n = os::arg(i, &mut word);
-    if os::errno() != 0 {
+    let Ok(n) = rt.arg(i, &mut word) else {
         complain_as(program);
         io::write_all(STDERR_FILENO, b"more than 4096 bytes in word ");
         io::print_decimal(STDERR_FILENO, i as u64);
         io::write_all(STDERR_FILENO, b"\n");
         return Wanted::Complained;
-    }
+    };
     let wanted = program_words::word_wants(&word[..n]);
     if let Wanted::Complained = wanted {
         complain_of_option(program, &word[..n]);
@@ -77,33 +109,34 @@ fn option(program: &[u8], i: usize) -> Wanted {
     wanted
 }
 
-// How many bytes of a buffer are filled, or that a read failed.
+// How many bytes of a buffer are filled, or why a read failed.
 #[derive(Clone, Copy)]
 struct Filled {
-    failed: bool,
+    failed: Option<Error>,
     count: usize,
 }
 
 // Reads a file to its end into a buffer behind the bytes that are there, or until the buffer is full. It is read once even into a
 // full buffer, which takes nothing: a file that cannot be read is told there too.
-fn fill(file: i32, buffer: &mut [u8], start: usize) -> Filled
+fn fill(file: &mut impl Read, buffer: &mut [u8], start: usize) -> Filled
     requires { start ≤ length buffer.old }
     ensures counts { IsPrefixLen result.count buffer.new }
     ensures keeps { take start buffer.new ≡ take start buffer.old }
 {
     let mut done = start;
     loop {
-        let got = libc::read(file, &mut buffer[done..]);
-        if got < 0 {
-            return Filled {
-                failed: true,
-                count: 0,
-            };
-        }
-        let more = io::count(got, &buffer[done..]);
+        let more = match file.read(&mut buffer[done..]) {
+            Ok(more) => more,
+            Err(error) => {
+                return Filled {
+                    failed: Some(error),
+                    count: 0,
+                };
+            }
+        };
         if more == 0 {
             return Filled {
-                failed: false,
+                failed: None,
                 count: done,
             };
         }
@@ -111,45 +144,48 @@ fn fill(file: i32, buffer: &mut [u8], start: usize) -> Filled
     }
 }
 
-// Why a file could not be opened or read. A write that succeeds leaves the reason of the failure as it is.
-fn complain_of_file(program: &[u8], path: &[u8]) {
-    complain_as(program);
-    os::fail(path);
+// Opens the file of a name. The system's names are text.
+fn open_read(rt: &impl System, path: &[u8]) -> Result<File> {
+    match str::from_utf8(path) {
+        Ok(name) => File::open(rt, name),
+        Err(_) => Err(Error::new(ErrorKind::InvalidFilename, "the name is not UTF-8")),
+    }
 }
 
 // Reads the file that word i names behind the bytes that are there.
-fn read_file(program: &[u8], i: usize, buffer: &mut [u8], start: usize) -> Filled
+fn read_file(rt: &impl System, program: &[u8], i: usize, buffer: &mut [u8], start: usize) -> Filled
     requires { start ≤ length buffer.old }
     ensures counts { IsPrefixLen result.count buffer.new }
     ensures keeps { take start buffer.new ≡ take start buffer.old }
 {
     let mut path = io::buffer();
-    let n = os::arg(i, &mut path);
-    let file = os::open_read(&path[..n]);
-    if file < 0 {
-        complain_of_file(program, &path[..n]);
-        return Filled {
-            failed: true,
-            count: 0,
-        };
+    let n = word_into(rt, i, &mut path);
+    let mut file = match open_read(rt, &path[..n]) {
+        Ok(file) => file,
+        Err(error) => {
+            complain_of_file(program, &path[..n], error);
+            return Filled {
+                failed: Some(error),
+                count: 0,
+            };
+        }
+    };
+    let filled = fill(&mut file, buffer, start);
+    if let Some(error) = filled.failed {
+        complain_of_file(program, &path[..n], error);
     }
-    let filled = fill(file, buffer, start);
-    if filled.failed {
-        complain_of_file(program, &path[..n]);
-    }
-    libc::close(file);
     filled
 }
 
 // Reads the files that the words name, in their order.
-fn read_files(program: &[u8], words: usize, buffer: &mut [u8]) -> Got
+fn read_files(rt: &impl System, program: &[u8], words: usize, buffer: &mut [u8]) -> Got
     ensures { IsPrefixLen result.count buffer.new }
 {
     let mut done = 0;
     let mut i = 1;
     while i < words {
-        let filled = read_file(program, i, buffer, done);
-        if filled.failed {
+        let filled = read_file(rt, program, i, buffer, done);
+        if filled.failed.is_some() {
             return Got {
                 wanted: Wanted::Complained,
                 count: 0,
@@ -164,16 +200,11 @@ fn read_files(program: &[u8], words: usize, buffer: &mut [u8]) -> Got
     }
 }
 
-fn complain_of_standard(program: &[u8]) {
-    complain_as(program);
-    io::write_all(STDERR_FILENO, b"standard input could not be read\n");
-}
-
-fn read_standard(program: &[u8], buffer: &mut [u8]) -> Got
+fn read_standard(rt: &impl System, program: &[u8], buffer: &mut [u8]) -> Got
     ensures { IsPrefixLen result.count buffer.new }
 {
-    let filled = fill(STDIN_FILENO, buffer, 0);
-    if filled.failed {
+    let filled = fill(&mut rt.reader(), buffer, 0);
+    if filled.failed.is_some() {
         complain_of_standard(program);
         return Got {
             wanted: Wanted::Complained,
@@ -188,19 +219,19 @@ fn read_standard(program: &[u8], buffer: &mut [u8]) -> Got
 
 // What a program's words ask for, and its input where that is to be read. Lend one byte more than may come: a full buffer then
 // says that more came.
-pub fn take(program: &[u8], buffer: &mut [u8]) -> Got
+pub fn take(rt: &impl System, program: &[u8], buffer: &mut [u8]) -> Got
     ensures { IsPrefixLen result.count buffer.new }
 {
-    let words = os::arg_count();
+    let words = word_count(rt);
     if words < 2 {
-        return read_standard(program, buffer);
+        return read_standard(rt, program, buffer);
     }
-    let i = first_option(words);
+    let i = first_option(rt, words);
     if i < words {
         return Got {
-            wanted: option(program, i),
+            wanted: option(rt, program, i),
             count: 0,
         };
     }
-    read_files(program, words, buffer)
+    read_files(rt, program, words, buffer)
 }
