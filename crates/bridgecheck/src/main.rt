@@ -3,8 +3,11 @@
 // `refused 21 at 7` with the place where the layout is broken; `refused 22` of a packet drive, `refused 18` of a damaged block.
 #![tactic(auto)]
 
-use libc::{STDERR_FILENO, STDOUT_FILENO};
 use program_words::Wanted;
+
+const STDOUT_FILENO: i32 = 1;
+
+const STDERR_FILENO: i32 = 2;
 
 // Every function that says something answers whether all of it was written.
 fn say(text: &[u8]) -> bool {
@@ -66,9 +69,9 @@ fn say_help() -> bool {
 
 // Four fields of 65,535 bytes and page 89h, each behind a tag and a length, are 262,727 bytes, the most that a layout can hold. The
 // buffer has one more: a longer capture breaks within it, at the same place as the whole.
-fn main() {
+fn main(rt: HostRuntime) {
     let mut buffer = [0u8; 262728];
-    let got = input::take(b"bridgecheck", &mut buffer);
+    let got = input::take(&rt, b"bridgecheck", &mut buffer);
     let n = got.count;
     let wanted = got.wanted;
     let written = match wanted {

@@ -6,8 +6,11 @@
 ghost use Rattle.std.specs.Prelude.{◌+◌, ◌≤◌, length};
 
 use intake::Intake;
-use libc::{STDERR_FILENO, STDOUT_FILENO};
 use program_words::Wanted;
+
+const STDOUT_FILENO: i32 = 1;
+
+const STDERR_FILENO: i32 = 2;
 
 // Every function that says something answers whether all of it was written.
 fn say(text: &[u8]) -> bool {
@@ -215,9 +218,9 @@ fn say_help() -> bool {
 }
 
 // The buffer has one byte more than may come, so that more is complained of and not cut.
-fn main() {
+fn main(rt: HostRuntime) {
     let mut buffer = [0u8; 65537];
-    let got = input::take(b"feed", &mut buffer);
+    let got = input::take(&rt, b"feed", &mut buffer);
     let n = got.count;
     let wanted = got.wanted;
     let written = match wanted {

@@ -6,9 +6,12 @@
 ghost use Rattle.std.specs.Prelude.{◌+◌, ◌*◌, ◌≤◌, ◌≡◌, length};
 
 use health_asked::Said;
-use libc::{STDERR_FILENO, STDOUT_FILENO};
 use passthrough::Pending;
 use program_words::Wanted;
+
+const STDOUT_FILENO: i32 = 1;
+
+const STDERR_FILENO: i32 = 2;
 
 // Every function that says something answers whether all of it was written.
 fn say(text: &[u8]) -> bool {
@@ -92,9 +95,9 @@ fn say_help() -> bool {
 }
 
 // The buffer has one byte more than 4096 images, so that more are complained of and not cut.
-fn main() {
+fn main(rt: HostRuntime) {
     let mut buffer = [0u8; 45057];
-    let got = input::take(b"health", &mut buffer);
+    let got = input::take(&rt, b"health", &mut buffer);
     let n = got.count;
     let wanted = got.wanted;
     let written = match wanted {

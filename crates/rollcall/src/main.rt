@@ -6,8 +6,11 @@
 
 ghost use Rattle.std.specs.Prelude.{◌+◌, ◌*◌, ◌≤◌, ◌≡◌, length};
 
-use libc::{STDERR_FILENO, STDOUT_FILENO};
 use program_words::Wanted;
+
+const STDOUT_FILENO: i32 = 1;
+
+const STDERR_FILENO: i32 = 2;
 
 // Every function that says something answers whether all of it was written.
 fn say(text: &[u8]) -> bool {
@@ -91,9 +94,9 @@ fn say_help() -> bool {
 }
 
 // The buffer has one byte more than a roll may have, so that longer input is refused and not cut.
-fn main() {
+fn main(rt: HostRuntime) {
     let mut buffer = [0u8; 32769];
-    let got = input::take(b"rollcall", &mut buffer);
+    let got = input::take(&rt, b"rollcall", &mut buffer);
     let n = got.count;
     let wanted = got.wanted;
     let written = match wanted {

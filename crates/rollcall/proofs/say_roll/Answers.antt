@@ -10,9 +10,7 @@ use Rattle.roll.specs.Roll.{checks, Outcome, outcome, refusal_of, roll}
 use Rattle.roll.specs.declared.Counted.{Counted}
 use borrow.Author.Tests.{eqb-true, ltb-false}
 use Rattle.rules.proofs.First.{silent}
-use borrow.Author.Rules.{rules}
-use Rattle.rollcall.proofs.say_roll.Statement.{statement}
-use Rattle.rollcall.proofs.say_roll.Tie as tie
+use Rattle.rollcall.proofs.say_roll.Goals as goal
 
 -- A run that is not refused has a row for each block.
 enough : (bytes : List ℕ) (room : ℕ) → refusal_of bytes room ≡ 0 → length bytes / 512 ≤ room
@@ -32,43 +30,5 @@ fits r bytes room after e = by (eqb (refusal_of bytes (length room)) 0) refl
         let count : r.blocks ≡ 0 = ap (λ (o : Outcome). o.counted.blocks) e ∙ rw h in
         (omega (arith, count), omega (arith, count))
 
-slice-aggregate-roll : tie.Need-slice-aggregate-roll
-slice-aggregate-roll c = search rules
-
-roll-requires : tie.Need-roll-requires
-roll-requires c κs = search rules
-
-say-refusal-requires : tie.Need-say-refusal-requires
-say-refusal-requires c κs = search rules
-
-returns : tie.Need-returns
-returns c = search rules
-
-say-counts-requires : tie.Need-say-counts-requires
-say-counts-requires c κs = search rules
-
-returns-2 : tie.Need-returns-2
-returns-2 c = search rules
-
-cast-say-blocks : tie.Need-overflow-cast-say-blocks
-cast-say-blocks c = search rules
-
-say-blocks-requires : tie.Need-say-blocks-requires
-say-blocks-requires c κs = fits _ _ _ _ c.before.before.before.before.before.before.before.roll.ensures
-
-returns-3 : tie.Need-returns-3
-returns-3 c = search rules
-
-pub say-roll-spec : {M : Type 1} → statement M
-say-roll-spec =
-    tie.close
-    (tie.spec
-    slice-aggregate-roll
-    roll-requires
-    say-refusal-requires
-    returns
-    say-counts-requires
-    returns-2
-    cast-say-blocks
-    say-blocks-requires
-    returns-3)
+pub say_blocks-requires : goal.say_blocks-requires
+say_blocks-requires c = fits _ _ _ _ c.roll-counted.ensures
