@@ -5,10 +5,14 @@
 
 ghost use Rattle.std.specs.Prelude.{◌≡◌, ◌≤◌, length};
 
+use input::System;
 use input::parts::Source;
-use libc::{STDERR_FILENO, STDOUT_FILENO};
 use order_words::words;
 use program_words::Wanted;
+
+const STDOUT_FILENO: i32 = 1;
+
+const STDERR_FILENO: i32 = 2;
 
 // Every function that says something answers whether all of it was written.
 fn say(text: &[u8]) -> bool {
@@ -165,7 +169,7 @@ fn take_part(lines: Lines, store: &mut [u8], part: &[u8]) -> Lines
 }
 
 // What the input came to, and whether it could be read to its end.
-#[derive(Clone, Copy)]
+#[derive(Drop)]
 struct Read {
     lines: Lines,
     source: Source,
@@ -174,11 +178,11 @@ struct Read {
 }
 
 // Reads once, and takes what came.
-fn read_some(read: Read, buffer: &mut [u8], store: &mut [u8]) -> Read
+fn read_some(rt: &impl System, read: Read, buffer: &mut [u8], store: &mut [u8]) -> Read
     requires { (read.lines.have ≤ 4096) × (length store.old ≡ 4096) }
     ensures { (result.lines.have ≤ 4096) × (length store.new ≡ 4096) }
 {
-    let part = input::parts::read(b"build", read.source, buffer);
+    let part = input::parts::read(rt, b"build", read.source, buffer);
     let n = part.count;
     let lines = take_part(read.lines, store, &buffer[..n]);
     let source = part.source;
@@ -215,14 +219,14 @@ fn unread(source: Source) -> Read
 
 // Reads to the end of the input, or until a line could not be written. A loop has to end, and nothing says that the input does: so the
 // turns are counted down from a number that no input uses up.
-fn read_all(source: Source, buffer: &mut [u8], store: &mut [u8]) -> Read
+fn read_all(rt: &impl System, source: Source, buffer: &mut [u8], store: &mut [u8]) -> Read
     requires { length store.old ≡ 4096 }
     ensures { (result.lines.have ≤ 4096) × (length store.new ≡ 4096) }
 {
     let mut read = unread(source);
     let mut turns = u64::MAX;
     while turns > 0 && !read.ended {
-        read = read_some(read, buffer, store);
+        read = read_some(rt, read, buffer, store);
         turns -= 1;
     }
     read
@@ -243,10 +247,10 @@ fn say_last(read: Read, store: &[u8]) -> bool
     true
 }
 
-fn report(source: Source) -> bool {
+fn report(rt: &impl System, source: Source) -> bool {
     let mut buffer = io::large_buffer();
     let mut store = [0u8; 4096];
-    let read = read_all(source, &mut buffer, &mut store);
+    let read = read_all(rt, source, &mut buffer, &mut store);
     say_last(read, &store)
 }
 
@@ -263,12 +267,12 @@ fn say_help() -> bool {
     )
 }
 
-fn main() {
-    let opened = input::parts::open(b"build");
+fn main(rt: HostRuntime) {
+    let opened = input::parts::open(&rt, b"build");
     let source = opened.source;
     let wanted = opened.wanted;
     let written = match wanted {
-        Wanted::Read => report(source),
+        Wanted::Read => report(&rt, source),
         Wanted::Help => say_help(),
         Wanted::Version => say(b"build (piongseut) 5.0.0\n"),
         Wanted::Complained => true,

@@ -6,11 +6,15 @@
 ghost use Rattle.std.specs.Prelude.{◌≡◌, ◌≤◌, ◌<◌, length};
 ghost use Rattle.io.specs.Counts.{IsPrefixLen};
 
+use input::System;
 use input::parts::Source;
 use intake::Intake;
-use libc::{STDERR_FILENO, STDOUT_FILENO};
 use program_words::Wanted;
 use tally::Census;
+
+const STDOUT_FILENO: i32 = 1;
+
+const STDERR_FILENO: i32 = 2;
 
 // Every function that says something answers whether all of it was written.
 fn say(text: &[u8]) -> bool {
@@ -127,7 +131,7 @@ fn take_part(count: Count, store: &mut [u8], part: &[u8]) -> Count
 }
 
 // What the input came to, and whether it could be read to its end.
-#[derive(Clone, Copy)]
+#[derive(Drop)]
 struct Read {
     count: Count,
     source: Source,
@@ -136,11 +140,11 @@ struct Read {
 }
 
 // Reads once, and takes what came.
-fn read_some(read: Read, buffer: &mut [u8], store: &mut [u8]) -> Read
+fn read_some(rt: &impl System, read: Read, buffer: &mut [u8], store: &mut [u8]) -> Read
     requires { (read.count.intake.have < 512) × (length store.old ≡ 512) }
     ensures { (result.count.intake.have < 512) × (length store.new ≡ 512) }
 {
-    let part = input::parts::read(b"census", read.source, buffer);
+    let part = input::parts::read(rt, b"census", read.source, buffer);
     let n = part.count;
     let count = take_part(read.count, store, &buffer[..n]);
     let source = part.source;
@@ -177,13 +181,13 @@ fn unread(source: Source) -> Read
 
 // Reads to the end of the input, or up to a refusal. A loop has to end, and nothing says that the input does: so the turns are
 // counted down from a number that no input uses up.
-fn read_all(source: Source, buffer: &mut [u8], store: &mut [u8]) -> Read
+fn read_all(rt: &impl System, source: Source, buffer: &mut [u8], store: &mut [u8]) -> Read
     requires { length store.old ≡ 512 }
 {
     let mut read = unread(source);
     let mut turns = u64::MAX;
     while turns > 0 && !read.ended {
-        read = read_some(read, buffer, store);
+        read = read_some(rt, read, buffer, store);
         turns -= 1;
     }
     read
@@ -247,10 +251,10 @@ fn say_read(count: Count) -> bool {
     say_census(count.census, count.damaged)
 }
 
-fn report(source: Source) -> bool {
+fn report(rt: &impl System, source: Source) -> bool {
     let mut buffer = io::large_buffer();
     let mut store = [0u8; 512];
-    let read = read_all(source, &mut buffer, &mut store);
+    let read = read_all(rt, source, &mut buffer, &mut store);
     if read.failed {
         return true;
     }
@@ -269,12 +273,12 @@ fn say_help() -> bool {
     )
 }
 
-fn main() {
-    let opened = input::parts::open(b"census");
+fn main(rt: HostRuntime) {
+    let opened = input::parts::open(&rt, b"census");
     let source = opened.source;
     let wanted = opened.wanted;
     let written = match wanted {
-        Wanted::Read => report(source),
+        Wanted::Read => report(&rt, source),
         Wanted::Help => say_help(),
         Wanted::Version => say(b"census (piongseut) 5.0.0\n"),
         Wanted::Complained => true,
