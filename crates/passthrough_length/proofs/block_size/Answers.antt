@@ -19,12 +19,12 @@ counted sectors size e =
 pub slice_bounds-sector_size-end : goal.slice_bounds-sector_size-end
 slice_bounds-sector_size-end c =
     let a = c.args in
-    let here = counted (a.later && c.t_type.result) (length a.block.now) c.if-later-t_type.true in
+    let here = counted _ (length a.block.now) c.if-later-t_type.true in
     sym (length-take-le _ a.block.now (omega (arith, here.1)))
 
 pub returns-then-later-t_type-clause-size : goal.returns-then-later-t_type-clause-size
 returns-then-later-t_type-clause-size c = let a = c.args in
-    let here = counted (a.later && c.t_type.result) (length a.block.now) c.if-later-t_type.true in
+    let here = counted _ (length a.block.now) c.if-later-t_type.true in
     let all : take 512 a.block.now ≡ a.block.now = take_all 512 a.block.now (omega (arith, here.1)) in
     rw (← c.t_type.ensures, here.0) (rw all at c.sector_size.ensures.size)
 
