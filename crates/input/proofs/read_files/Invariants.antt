@@ -1,5 +1,5 @@
 -- `read_files`: what came of the files so far fits the buffer.
-use Rattle.std.proofs.Common.{◌-◌, ◌≤◌, ◌≡◌, length, take}
+use Rattle.std.proofs.Common.{◌-◌, ◌≤◌, ◌≡◌, length}
 use Rattle.input.proofs.read_files.Given as goal
 
 abbrev pub invariant-loop-i : goal.invariant-loop-i
