@@ -4,7 +4,7 @@ use std::fmt::Write;
 use std::io::Error;
 
 // The start of a complaint: the program's name.
-pub fn complain_as(program: &[u8]) {
+pub(crate) fn complain_as(program: &[u8]) {
     io::write_all(STDERR_FILENO, program);
     io::write_all(STDERR_FILENO, b": ");
 }
@@ -41,7 +41,7 @@ fn reason(text: &[u8]) -> &[u8] {
 }
 
 // Why a file could not be opened or read.
-pub fn complain_of_file(program: &[u8], path: &[u8], error: Error) {
+pub(crate) fn complain_of_file(program: &[u8], path: &[u8], error: Error) {
     let mut text = Text {
         bytes: [0; 256],
         count: 0,
@@ -55,7 +55,7 @@ pub fn complain_of_file(program: &[u8], path: &[u8], error: Error) {
     io::write_all(STDERR_FILENO, b"\n");
 }
 
-pub fn complain_of_standard(program: &[u8]) {
+pub(crate) fn complain_of_standard(program: &[u8]) {
     complain_as(program);
     io::write_all(STDERR_FILENO, b"standard input could not be read\n");
 }
