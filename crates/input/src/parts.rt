@@ -5,7 +5,6 @@ ghost use Rattle.std.specs.Io.{ReadsAtMost};
 ghost use Rattle.io.specs.Counts.{IsPrefixLen};
 
 use crate::System;
-use crate::complaints::{complain_of_file, complain_of_standard};
 use program_words::Wanted;
 use std::fs::File;
 use std::io::{Error, Read, Result};
@@ -69,7 +68,7 @@ fn open_word(rt: &impl System, program: &[u8], word: usize) -> Part
             file: Some(file),
         }),
         Err(error) => {
-            complain_of_file(program, &path[..n], error);
+            crate::complain_of_file(program, &path[..n], error);
             end(Wanted::Complained)
         }
     }
@@ -109,12 +108,12 @@ fn behind(rt: &impl System, program: &[u8], source: Source) -> Part
 // A source that cannot be read.
 fn complain_of(rt: &impl System, program: &[u8], source: &Source, error: Error) {
     if source.word == 0 {
-        complain_of_standard(program);
+        crate::complain_of_standard(program);
         return;
     }
     let mut path = io::buffer();
     let n = crate::word_into(rt, source.word, &mut path);
-    complain_of_file(program, &path[..n], error);
+    crate::complain_of_file(program, &path[..n], error);
 }
 
 // Reads once from a source.
