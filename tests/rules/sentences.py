@@ -148,8 +148,11 @@ def files_lacking(tree):
 
 
 def functions_lacking(tree):
-    """Functions, and what else a crate's source defines, that the documents name as CRATE::NAME; a type or module may stand between."""
+    """Functions, and what else a crate's source defines, that the documents name as CRATE::NAME; a type or module may stand between. Two
+    pages tell of what was, and name what stood there then."""
     for path in tree.files("*.md", "docs/*.md"):
+        if path in ("docs/PORT.md", "docs/DESIGN-PASS.md"):
+            continue
         named = [name.split("::") for name in re.findall(r"`([a-z]\w*::[\w:]+)`", tree.text(path))]
         sources = {crate: "\n".join(map(tree.text, tree.files("crates/%s/src/*.rt" % crate))) for crate, *_ in named}
         yield from ("%s names %s" % (path, "::".join(name)) for name in named

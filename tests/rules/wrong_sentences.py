@@ -63,7 +63,7 @@ WRONG = [Wrong(*row) for row in (
     (WORDS, RULES, "| Ultra DMA modes (14) | 88 bits 6:0 | 176 bits 6:0 |", "| Ultra DMA modes (14) | 88 bits 6:0 | 177 bits 6:0 |",
      "is at 176"),
     (WORDS, "crates/identify/specs/Sector.antt", "word block 106", "word block 107", "word 107 is read"),
-    (CONTRACTS, STATEMENTS, "| `output::show` |", "| `output::digit` |", "output::show leaves something open"),
+    (CONTRACTS, STATEMENTS, "| `input::stream::read` |", "| `input::stream::fill` |", "input::stream::read leaves something open"),
     (CONTRACTS, STATEMENTS, "- `Wrote` (`room/specs/Room`)", "- `Wrote`", "the relations are not told"),
     (CONTRACTS, "crates/packet/src/lib.rt", "{ result ≡ length (page00 reply.now) }", "{ result ≤ length (page00 reply.now) }",
      "packet::size leaves something open"),

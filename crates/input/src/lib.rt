@@ -1,293 +1,160 @@
-// Input: what the words behind a program's name ask for, and the bytes that it is given: those of the files that the words name, one
-// file behind the other, or of standard input where there is no word. All of it at once is `take`; part by part is in parts. What one word
-// asks for is in `program_words`.
+// Input: what the words behind a program's name ask for, and the frame that all programs share: help, version, complaints, and the input
+// that a program prints from, which is in `stream`. What one word asks for is in `program_words`.
 #![tactic(auto)]
 
-pub mod parts;
+pub mod failure;
+pub mod stream;
 
-ghost use Rattle.std.specs.Prelude.{◌≤◌, ◌≡◌, length, take};
-ghost use Rattle.io.specs.Counts.{IsPrefixLen};
-
+use arrayvec::ArrayString;
+pub use failure::{Failure, Unread};
 use program_words::Wanted;
 use std::env::FillError;
-use std::fmt::Write;
+use std::fmt::{Display, Write as _};
 use std::fs::File;
-use std::io::{Error, ErrorKind, Input, Read, Result};
+use std::io;
+use std::io::{Error, Input, Print, Stderr, Write};
 use std::rt::{Env, Files};
+pub use stream::Stream;
 
-const STDERR_FILENO: i32 = 2;
+const VERSION: &'static str = "5.0.0";
 
-// What a program is given by the system: its words, files by their names, and standard input.
-pub trait System: Env + Files<File = File> + Input {}
+// What each help says of where the input comes from.
+const WHERE: &'static str = "\
+    It is the files, one behind the other, or standard input where no file is named.";
 
-impl System for HostRuntime {}
-
-// What is wanted, and how many bytes came.
-#[derive(Clone, Copy)]
-pub struct Got {
-    pub wanted: Wanted,
-    pub count: usize,
+// What a program is given by the system: its words, files by their names, standard input, and what it prints and complains on.
+pub trait System: Env + Files<File = File> + Input + Print {
+    // Standard error, for bytes that need not be text: a file may have any name.
+    fn complaints(&self) -> Stderr;
 }
 
-// Whether there is a word i, of whatever size.
-fn has_word(rt: &impl System, i: usize) -> bool {
-    match rt.arg(i, &mut []) {
-        Ok(_) => true,
-        Err(FillError::TooLong) => true,
-        Err(FillError::NotPresent) => false,
+impl System for HostRuntime {
+    fn complaints(&self) -> Stderr {
+        self.stderr()
     }
 }
 
-// How many words there are, the program's name among them.
-fn word_count(rt: &impl System) -> usize {
-    let mut i = 0;
-    while i < usize::MAX && has_word(rt, i) {
-        i += 1;
-    }
-    i
+// A program: its name, what its help says of it and of its input, the words of its example, and what it prints of its input.
+pub trait Program {
+    const NAME: &'static str;
+
+    const HELP: &'static str;
+
+    const EXAMPLE: &'static str;
+
+    // What is wrong with input that the program does not take: its words where there are some.
+    type Wrong: Display + Drop;
+
+    fn print<S: System, W: Write>(
+        &self,
+        input: &mut Stream<'_, S>,
+        out: &mut W,
+    ) -> Result<(), Failure<Self::Wrong>>;
 }
 
-// The size of word i, whose bytes are then at the start of the buffer; 0 where it is missing or does not fit.
-fn word_into(rt: &impl System, i: usize, buffer: &mut [u8]) -> usize
-    ensures { IsPrefixLen result buffer.new }
-{
-    match rt.arg(i, buffer) {
-        Ok(n) => n,
-        Err(_) => 0,
-    }
+// What every program does.
+pub trait Run {
+    // Does what the words ask of the program, or complains.
+    fn run(&self, rt: &impl System);
 }
 
-// Whether word i names a file. One that is too long for a file's name does not.
-fn names_file(rt: &impl System, i: usize) -> bool {
-    let mut word = io::buffer();
-    let Ok(n) = rt.arg(i, &mut word) else {
-        return false;
-    };
-    match program_words::word_wants(&word[..n]) {
-        Wanted::Read => true,
-        Wanted::Help => false,
-        Wanted::Version => false,
-        Wanted::Complained => false,
-    }
-}
-
-// The place of the first word that names no file, and `words` where all do.
-fn first_option(rt: &impl System, words: usize) -> usize {
-    let mut i = 1;
-    while i < words {
-        if !names_file(rt, i) {
-            return i;
+impl<P: Program> Run for P {
+    fn run(&self, rt: &impl System) {
+        if let Err(failure) = follow(rt, self) {
+            // Where nothing can be said on standard error either, there is nobody to tell.
+            let _ = complain(rt, P::NAME, failure);
         }
-        i += 1;
     }
-    i
 }
 
-// The start of a complaint: the program's name.
-fn complain_as(program: &[u8]) {
-    io::write_all(STDERR_FILENO, program);
-    io::write_all(STDERR_FILENO, b": ");
-}
-
-// Text as it is written out, up to 256 bytes of it.
-#[derive(Clone, Copy)]
-struct Text {
-    bytes: [u8; 256],
-    count: usize,
-}
-
-impl Write for Text {
-    fn write_str(&mut self, text: &str) -> std::fmt::Result {
-        for byte in text.as_bytes() {
-            if self.count < 256 {
-                self.bytes[self.count] = *byte;
-                self.count += 1;
-            }
+fn follow<P: Program>(rt: &impl System, program: &P) -> Result<(), Failure<P::Wrong>> {
+    let mut out = io::writer(rt);
+    match wanted(rt)? {
+        Wanted::Read => {
+            let mut input = Stream::try_from(rt)?;
+            program.print(&mut input, &mut out)
         }
-        Ok(())
+        Wanted::Help => Ok(print_help::<P>(&mut out)?),
+        Wanted::Version => Ok(print_version::<P>(&mut out)?),
+    }
+}
+
+// What the words ask for: the first that names no file decides.
+fn wanted<C>(rt: &impl System) -> Result<Wanted, Failure<C>> {
+    let mut word = [0u8; 4096];
+    for i in 1..usize::MAX {
+        let n = match rt.arg(i, &mut word) {
+            Ok(n) => n,
+            Err(FillError::TooLong) => return Err(Failure::LongWord(i)),
+            Err(FillError::NotPresent) => break,
+        };
+        match program_words::word_wants(&word[..n]) {
+            Some(Wanted::Read) => {}
+            Some(wanted) => return Ok(wanted),
+            None => return Err(Failure::NoOption(i)),
+        }
+    }
+    Ok(Wanted::Read)
+}
+
+fn print_version<P: Program>(out: &mut impl Write) -> io::Result<()> {
+    let name = P::NAME;
+    writeln!(out, "{name} (piongseut) {VERSION}")
+}
+
+fn print_usage(out: &mut impl Write, name: &str) -> io::Result<()> {
+    writeln!(out, "usage: {name} [FILE ..] | --help | --version")
+}
+
+fn print_help<P: Program>(out: &mut impl Write) -> io::Result<()> {
+    print_usage(out, P::NAME)?;
+    writeln!(out, "{}", P::HELP)?;
+    writeln!(out, "{WHERE}")?;
+    writeln!(out, "Example: ./run {} {}", P::NAME, P::EXAMPLE)
+}
+
+// Says on standard error what went wrong, behind the program's name.
+fn complain<C: Display + Drop>(
+    rt: &impl System,
+    name: &str,
+    failure: Failure<C>,
+) -> io::Result<()> {
+    let mut err = rt.complaints();
+    write!(err, "{name}: ")?;
+    match failure {
+        Failure::LongWord(i) => writeln!(err, "more than 4096 bytes in word {i}"),
+        Failure::NoOption(i) => {
+            write_word(rt, i, &mut err)?;
+            writeln!(err, " is no option")?;
+            print_usage(&mut err, name)
+        }
+        Failure::Unread(Unread::Standard) => writeln!(err, "standard input could not be read"),
+        Failure::Unread(Unread::File { word, error }) => {
+            write_word(rt, word, &mut err)?;
+            write!(err, ": ")?;
+            write_reason(error, &mut err)
+        }
+        Failure::Wrong(wrong) => writeln!(err, "{wrong}"),
+        Failure::Unwritten => writeln!(err, "standard output could not be written"),
+    }
+}
+
+// A word as it stands, whatever its bytes are.
+fn write_word(rt: &impl System, i: usize, err: &mut Stderr) -> io::Result<()> {
+    let mut word = [0u8; 4096];
+    match rt.arg(i, &mut word) {
+        Ok(n) => err.write_all(&word[..n]),
+        Err(_) => Ok(()),
     }
 }
 
 // The system's words for an error, without its number, which stands behind them.
-fn reason(text: &[u8]) -> &[u8] {
-    let mut i = 0;
-    while i < text.len() {
-        if text[i..].starts_with(b" (os error ") {
-            return &text[..i];
-        }
-        i += 1;
-    }
-    text
-}
-
-// Why a file could not be opened or read.
-fn complain_of_file(program: &[u8], path: &[u8], error: Error) {
-    let mut text = Text {
-        bytes: [0; 256],
-        count: 0,
-    };
+fn write_reason(error: Error, err: &mut Stderr) -> io::Result<()> {
+    let mut text = ArrayString::<512>::new();
     let _ = write!(text, "{error}");
-    let count = text.count.min(256);
-    complain_as(program);
-    io::write_all(STDERR_FILENO, path);
-    io::write_all(STDERR_FILENO, b": ");
-    io::write_all(STDERR_FILENO, reason(&text.bytes[..count]));
-    io::write_all(STDERR_FILENO, b"\n");
-}
-
-fn complain_of_standard(program: &[u8]) {
-    complain_as(program);
-    io::write_all(STDERR_FILENO, b"standard input could not be read\n");
-}
-
-fn complain_of_option(program: &[u8], word: &[u8]) {
-    complain_as(program);
-    io::write_all(STDERR_FILENO, word);
-    io::write_all(STDERR_FILENO, b" is no option\nusage: ");
-    io::write_all(STDERR_FILENO, program);
-    io::write_all(STDERR_FILENO, b" [FILE ..] | --help | --version\n");
-}
-
-// What is wanted by word i, which names no file.
-fn option(rt: &impl System, program: &[u8], i: usize) -> Wanted {
-    let mut word = io::buffer();
-    let Ok(n) = rt.arg(i, &mut word) else {
-        complain_as(program);
-        io::write_all(STDERR_FILENO, b"more than 4096 bytes in word ");
-        io::print_decimal(STDERR_FILENO, i as u64);
-        io::write_all(STDERR_FILENO, b"\n");
-        return Wanted::Complained;
-    };
-    let wanted = program_words::word_wants(&word[..n]);
-    if let Wanted::Complained = wanted {
-        complain_of_option(program, &word[..n]);
+    let text = text.as_str();
+    match text.split_once(" (os error ") {
+        Some((reason, _)) => writeln!(err, "{reason}"),
+        None => writeln!(err, "{text}"),
     }
-    wanted
-}
-
-// How many bytes of a buffer are filled, or why a read failed.
-#[derive(Clone, Copy)]
-struct Filled {
-    failed: Option<Error>,
-    count: usize,
-}
-
-// Reads a file to its end into a buffer behind the bytes that are there, or until the buffer is full. It is read once even into a
-// full buffer, which takes nothing: a file that cannot be read is told there too.
-fn fill(file: &mut impl Read, buffer: &mut [u8], start: usize) -> Filled
-    requires { start ≤ length buffer.old }
-    ensures counts { IsPrefixLen result.count buffer.new }
-    ensures keeps { take start buffer.new ≡ take start buffer.old }
-{
-    let mut done = start;
-    loop {
-        let more = match file.read(&mut buffer[done..]) {
-            Ok(more) => more,
-            Err(error) => {
-                return Filled {
-                    failed: Some(error),
-                    count: 0,
-                };
-            }
-        };
-        if more == 0 {
-            return Filled {
-                failed: None,
-                count: done,
-            };
-        }
-        done += more;
-    }
-}
-
-// Opens the file of a name. The system's names are text.
-fn open_read(rt: &impl System, path: &[u8]) -> Result<File> {
-    match str::from_utf8(path) {
-        Ok(name) => File::open(rt, name),
-        Err(_) => Err(Error::new(ErrorKind::InvalidFilename, "the name is not UTF-8")),
-    }
-}
-
-// Reads the file that word i names behind the bytes that are there.
-fn read_file(rt: &impl System, program: &[u8], i: usize, buffer: &mut [u8], start: usize) -> Filled
-    requires { start ≤ length buffer.old }
-    ensures counts { IsPrefixLen result.count buffer.new }
-    ensures keeps { take start buffer.new ≡ take start buffer.old }
-{
-    let mut path = io::buffer();
-    let n = word_into(rt, i, &mut path);
-    let mut file = match open_read(rt, &path[..n]) {
-        Ok(file) => file,
-        Err(error) => {
-            complain_of_file(program, &path[..n], error);
-            return Filled {
-                failed: Some(error),
-                count: 0,
-            };
-        }
-    };
-    let filled = fill(&mut file, buffer, start);
-    if let Some(error) = filled.failed {
-        complain_of_file(program, &path[..n], error);
-    }
-    filled
-}
-
-// Reads the files that the words name, in their order.
-fn read_files(rt: &impl System, program: &[u8], words: usize, buffer: &mut [u8]) -> Got
-    ensures { IsPrefixLen result.count buffer.new }
-{
-    let mut done = 0;
-    let mut i = 1;
-    while i < words {
-        let filled = read_file(rt, program, i, buffer, done);
-        if filled.failed.is_some() {
-            return Got {
-                wanted: Wanted::Complained,
-                count: 0,
-            };
-        }
-        done = filled.count;
-        i += 1;
-    }
-    Got {
-        wanted: Wanted::Read,
-        count: done,
-    }
-}
-
-fn read_standard(rt: &impl System, program: &[u8], buffer: &mut [u8]) -> Got
-    ensures { IsPrefixLen result.count buffer.new }
-{
-    let filled = fill(&mut rt.reader(), buffer, 0);
-    if filled.failed.is_some() {
-        complain_of_standard(program);
-        return Got {
-            wanted: Wanted::Complained,
-            count: 0,
-        };
-    }
-    Got {
-        wanted: Wanted::Read,
-        count: filled.count,
-    }
-}
-
-// What a program's words ask for, and its input where that is to be read. Lend one byte more than may come: a full buffer then
-// says that more came.
-pub fn take(rt: &impl System, program: &[u8], buffer: &mut [u8]) -> Got
-    ensures { IsPrefixLen result.count buffer.new }
-{
-    let words = word_count(rt);
-    if words < 2 {
-        return read_standard(rt, program, buffer);
-    }
-    let i = first_option(rt, words);
-    if i < words {
-        return Got {
-            wanted: option(rt, program, i),
-            count: 0,
-        };
-    }
-    read_files(rt, program, words, buffer)
 }

@@ -1,2 +1,3 @@
--- The laws of reading a line, for the crates above.
-pub mod Readings
+-- The laws of reading a line, for the crate.
+mod Readings
+mod Roads

@@ -1,128 +1,120 @@
 -- The order that a line names: words `field=value`, with spaces between them (RULES 16.5).
-use Rattle.std.specs.Prelude.{true, false, cond, ◌&&◌, not, List, [], ◌∷◌, ℕ, suc, ◌+◌, ◌-◌, ◌%◌, eqb, ltb, length, get_or, set, take, drop, replicate}
+use Rattle.std.specs.Prelude.{cond, List, [], ◌∷◌, ◌++◌, ℕ, ◌+◌, ◌-◌, ◌%◌, eqb, ltb, length, get_or, set, take, drop, replicate, codes, position, Option, Some, None, unwrap_or, Result, Ok, Err, ok_or}
+use Rattle.std.specs.Option.{is_some, option_or}
+use Rattle.std.specs.Result.{result_map_both}
+use Rattle.std.specs.List.{flat_map}
+use Rattle.std.specs.Str.{bytes_eq}
 use Rattle.passthrough_order.specs.declared.Order.{Order}
-use Rattle.order_words.specs.declared.number.Number.{Number}
-use Rattle.order_words.specs.Words.{bytes, equals, up_to, parts, place_of}
+use Rattle.output.specs.Shown.{shown}
+use Rattle.order_words.specs.Words.{words, place_of}
 use Rattle.order_words.specs.Number.{number_of}
+use Rattle.order_lines.specs.declared.Fault.{Fault}
+use Rattle.order_lines.specs.declared.Fault.TheVariants.{NoEquals, NoField, NoNumber, TooLarge, Twice}
 use Rattle.order_lines.specs.declared.Word.{Word}
-use Rattle.order_lines.specs.declared.Read.{Read}
+use Rattle.order_lines.specs.declared.Wrong.{Wrong}
 
 -- The fields of an order, as C calls them.
 abbrev pub field_names : List (List ℕ)
-field_names = parts (bytes "length auxiliary features count lba_low lba_mid lba_high quiet_seconds sectors_per_block device command protocol ck_cond extend direction")
+field_names =
+    codes "length" ∷ codes "auxiliary" ∷ codes "features" ∷ codes "count" ∷ codes "lba_low" ∷ codes "lba_mid" ∷ codes "lba_high"
+    ∷ codes "quiet_seconds" ∷ codes "sectors_per_block" ∷ codes "device" ∷ codes "command" ∷ codes "protocol" ∷ codes "ck_cond"
+    ∷ codes "extend" ∷ codes "direction" ∷ []
 
 abbrev pub direction : ℕ
 direction = 14
 
 -- Names of the directions 0, 1 and 2.
 abbrev pub directions : List (List ℕ)
-directions = parts (bytes "none from to")
+directions = codes "none" ∷ codes "from" ∷ codes "to" ∷ []
 
 -- The first number that is too large for a field: the first two have 32 bits, the next seven 16, and the others 8.
 abbrev pub limit : ℕ → ℕ
 limit field = cond (ltb field 2) 0x100000000 (cond (ltb field 9) 0x10000 0x100)
 
 -- The number that a value is: of the direction also by its name.
-unfoldable pub value_of : ℕ → List ℕ → Number
-value_of field value =
-    cond (eqb field direction && ltb (place_of value directions) 3) (record { valid = true; value = place_of value directions })
-    (number_of value)
+unfoldable pub value_of : ℕ → List ℕ → Option ℕ
+value_of field value = option_or (cond (eqb field direction) (place_of value directions) None) (number_of value)
 
--- What can be wrong with a word: it has no =; it names no field; it has no number, or one too large; its field was given before.
-abbrev pub no_equals : ℕ
-no_equals = 1
+-- The place of the first = of a word.
+abbrev pub equals_in : List ℕ → Option ℕ
+equals_in word = position (λ byte. eqb byte 0x3D) word
 
-abbrev pub no_field : ℕ
-no_field = 2
+-- What there is without a fault, and then what comes of it.
+infixl 10 ◌>>=◌
+abbrev pub ◌>>=◌ : {A B E : Type 0} → Result A E → (A → Result B E) → Result B E
+Ok value >>= next = next value
+Err fault >>= next = Err fault
 
-abbrev pub no_number : ℕ
-no_number = 3
+-- What a word says by itself: it has an =; what stands before the first one names a field; and what stands behind it is a number that
+-- the field has room for.
+unfoldable pub word_of : List ℕ → Result Word Fault
+word_of word = do
+  size ← ok_or (equals_in word) NoEquals
+  field ← ok_or (place_of (take size word) field_names) NoField
+  value ← ok_or (value_of field (drop (size + 1) word)) NoNumber
+  cond (ltb value (limit field)) (Ok (record { field = field; value = value })) (Err TooLarge)
 
-abbrev pub large : ℕ
-large = 4
+-- The values of the fields, None where none is given, with what a word more says. No field is given twice.
+unfoldable pub with_word : List (Option ℕ) → List ℕ → Result (List (Option ℕ)) Fault
+with_word values word = do
+  said ← word_of word
+  cond (is_some (get_or values said.field None)) (Err Twice) (Ok (set values said.field (Some said.value)))
 
-abbrev pub twice : ℕ
-twice = 5
+-- The same with each of several words, up to one that is wrong, which comes back with its fault.
+unfoldable pub with_words : List (Option ℕ) → List (List ℕ) → Result (List (Option ℕ)) (List ℕ × Fault)
+with_words values [] = Ok values
+with_words values (word ∷ words) = do
+  more ← result_map_both (λ more. more) (λ fault. (word, fault)) (with_word values word)
+  with_words more words
 
-abbrev pub wrong : ℕ → Word
-wrong fault = record { fault = fault; field = 0; value = 0 }
-
-abbrev pub field_of : List ℕ → ℕ
-field_of word = place_of (take (up_to equals word) word) field_names
-
-abbrev pub valued : ℕ → Number → Word
-valued field number =
-    cond number.valid
-    (cond (ltb number.value (limit field)) (record { fault = 0; field = field; value = number.value }) (wrong large))
-    (wrong no_number)
-
--- What a word says by itself.
-unfoldable pub word_of : List ℕ → Word
-word_of word =
-    cond (ltb (up_to equals word) (length word))
-    (cond (ltb (field_of word) 15) (valued (field_of word) (value_of (field_of word) (drop (suc (up_to equals word)) word))) (wrong no_field))
-    (wrong no_equals)
-
--- Before the first word every field is zero, and none is given.
-abbrev pub unread : Read
-unread = record { values = replicate 15 0; given = replicate 15 false; some = false; fault = 0; start = 0; end = 0 }
-
--- A line in which the word from one place up to another is wrong.
-abbrev pub faulty : Read → ℕ → ℕ → ℕ → Read
-faulty read fault start end =
-    record { values = read.values; given = read.given; some = true; fault = fault; start = start; end = end }
-
-abbrev pub giving : Read → Word → Read
-giving read word =
-    record {
-      values = set read.values word.field word.value;
-      given = set read.given word.field true;
-      some = true;
-      fault = 0;
-      start = 0;
-      end = 0;
-    }
-
-abbrev pub added : Read → ℕ → ℕ → Word → Read
-added read start end word =
-    cond (eqb word.fault 0)
-    (cond (get_or read.given word.field false) (faulty read twice start end) (giving read word))
-    (faulty read word.fault start end)
-
--- One part more, from a place of the line on. Behind a wrong word nothing is read.
-unfoldable pub with_part : Read → ℕ → List ℕ → Read
-with_part read start part =
-    cond (eqb read.fault 0 && not (eqb (length part) 0)) (added read start (start + length part) (word_of part))
-    read
-
-unfoldable pub with_parts : Read → ℕ → List (List ℕ) → Read
-with_parts read start [] = read
-with_parts read start (part ∷ parts) = with_parts (with_part read start part) (start + length part + 1) parts
-
-abbrev pub read_line : List ℕ → Read
-read_line line = with_parts unread 0 (parts line)
+-- What the words of a line come to. Before the first one no field is given.
+abbrev pub read_line : List ℕ → Result (List (Option ℕ)) (List ℕ × Fault)
+read_line line = with_words (replicate 15 None) (words line)
 
 -- A carriage return at the line's end is no part of it.
 unfoldable pub without_return : List ℕ → List ℕ
-without_return line = cond (eqb (get_or line (length line - 1) 0) 0x0D) (take (length line - 1) line) line
+without_return line = cond (bytes_eq (drop (length line - 1) line) (0x0D ∷ [])) (take (length line - 1) line) line
+
+-- A field that is not given is 0.
+abbrev pub value : List (Option ℕ) → ℕ → ℕ
+value values field = unwrap_or (get_or values field None) 0
 
 -- The order of the values, each of as many bits as its field has.
-abbrev pub order_of : List ℕ → Order
+abbrev pub order_of : List (Option ℕ) → Order
 order_of values =
     record {
-      length = get_or values 0 0;
-      auxiliary = get_or values 1 0;
-      features = get_or values 2 0 % 0x10000;
-      count = get_or values 3 0 % 0x10000;
-      lba_low = get_or values 4 0 % 0x10000;
-      lba_mid = get_or values 5 0 % 0x10000;
-      lba_high = get_or values 6 0 % 0x10000;
-      quiet_seconds = get_or values 7 0 % 0x10000;
-      sectors_per_block = get_or values 8 0 % 0x10000;
-      device = get_or values 9 0 % 0x100;
-      command = get_or values 10 0 % 0x100;
-      protocol = get_or values 11 0 % 0x100;
-      ck_cond = get_or values 12 0 % 0x100;
-      extend = get_or values 13 0 % 0x100;
-      direction = get_or values 14 0 % 0x100;
+      length = value values 0;
+      auxiliary = value values 1;
+      features = value values 2 % 0x10000;
+      count = value values 3 % 0x10000;
+      lba_low = value values 4 % 0x10000;
+      lba_mid = value values 5 % 0x10000;
+      lba_high = value values 6 % 0x10000;
+      quiet_seconds = value values 7 % 0x10000;
+      sectors_per_block = value values 8 % 0x10000;
+      device = value values 9 % 0x100;
+      command = value values 10 % 0x100;
+      protocol = value values 11 % 0x100;
+      ck_cond = value values 12 % 0x100;
+      extend = value values 13 % 0x100;
+      direction = value values 14 % 0x100;
     }
+
+-- The order that a line names, or its first wrong word.
+abbrev pub order_named : List ℕ → Result Order (List ℕ × Fault)
+order_named line = result_map_both order_of (λ wrong. wrong) (read_line line)
+
+-- A wrong word with its bytes in place of the reference to them.
+abbrev pub seen : {A : Type 0} → Result A Wrong → Result A (List ℕ × Fault)
+seen result = result_map_both (λ value. value) (λ wrong. (wrong.word.now, wrong.fault)) result
+
+-- What is said of a word that is wrong.
+abbrev pub said : Fault → List ℕ
+said NoEquals = codes "has no ="
+said NoField = codes "names no field of an order"
+said NoNumber = codes "has no number"
+said TooLarge = codes "has a number too large for its field"
+said Twice = codes "gives its field a second time"
+
+abbrev pub complaint : List ℕ → Fault → List ℕ
+complaint word fault = flat_map shown word ++ codes " " ++ said fault

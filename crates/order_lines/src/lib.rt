@@ -1,248 +1,224 @@
 // Order lines: the order that a line of text names, as words `field=value`. The rules stand in specs/Line.
 #![tactic(auto)]
 
-ghost use Rattle.std.specs.Prelude.{◌≡◌, List, ◌+◌, ◌≤◌, ◌<◌, length};
-ghost use Rattle.order_lines.specs.Line.{limit as Line·limit, value_of, wrong as Line·wrong, valued as Line·valued, word_of, unread as Line·unread, faulty as Line·faulty, giving as Line·giving, added as Line·added, with_part, read_line, without_return, order_of};
+ghost use Rattle.std.specs.Prelude.{◌≡◌, ◌<◌, ◌%◌, Some, IfOk};
+ghost use Rattle.order_lines.specs.Line.{limit as Line·limit, value_of, equals_in, word_of, with_word, read_line, seen, without_return, value as Line·value, order_of, order_named, said, complaint};
 
-use order_words::number::Number;
 use order_words::{number, words};
+use output::Text;
 use passthrough_order::Order;
+use std::fmt;
 
 // The fields of an order, as C calls them.
-const FIELDS: [u8; 137] =
-    *b"length auxiliary features count lba_low lba_mid lba_high quiet_seconds sectors_per_block device command protocol ck_cond extend direction";
+const FIELDS: [&str; 15] = [
+    "length",
+    "auxiliary",
+    "features",
+    "count",
+    "lba_low",
+    "lba_mid",
+    "lba_high",
+    "quiet_seconds",
+    "sectors_per_block",
+    "device",
+    "command",
+    "protocol",
+    "ck_cond",
+    "extend",
+    "direction",
+];
 
 const DIRECTION: usize = 14;
 
+// The names of the directions 0, 1 and 2.
+const DIRECTIONS: [&str; 3] = ["none", "from", "to"];
+
+// The value of each field that a line gives.
+pub type Values = [Option<u32>; 15];
+
 // What can be wrong with a word.
-pub const NO_EQUALS: u8 = 1;
-
-pub const NO_FIELD: u8 = 2;
-
-pub const NO_NUMBER: u8 = 3;
-
-pub const LARGE: u8 = 4;
-
-pub const TWICE: u8 = 5;
-
-// What a word says by itself: a field's value, or what is wrong, and 0 where nothing is.
-#[derive(Clone, Copy)]
-pub struct Word {
-    pub fault: u8,
-    pub field: usize,
-    pub value: u32,
+#[derive(Clone, Copy, Debug, PartialEq, Eq)]
+pub enum Fault {
+    NoEquals,
+    NoField,
+    NoNumber,
+    TooLarge,
+    Twice,
 }
 
-// What the words of a line came to so far: the value of each field, and which are given; whether there was a word; what is wrong, 0
-// where nothing is, and the places from and up to which the wrong word stands.
-#[derive(Clone, Copy)]
-pub struct Read {
-    pub values: [u32; 15],
-    pub given: [bool; 15],
-    pub some: bool,
-    pub fault: u8,
-    pub start: usize,
-    pub end: usize,
-}
+impl fmt::Display for Fault {
+    ghost output = { λ fault. Some (said fault) };
 
-fn wrong(fault: u8) -> Word
-    ensures { result ≡ Line·wrong fault }
-{
-    Word {
-        fault,
-        field: 0,
-        value: 0,
+    fn fmt<W: fmt::Write>(&self, f: &mut fmt::Formatter<W>) -> fmt::Result {
+        match self {
+            Fault::NoEquals => write!(f, "has no ="),
+            Fault::NoField => write!(f, "names no field of an order"),
+            Fault::NoNumber => write!(f, "has no number"),
+            Fault::TooLarge => write!(f, "has a number too large for its field"),
+            Fault::Twice => write!(f, "gives its field a second time"),
+        }
     }
 }
 
-// The first number that is too large for a field.
+// A line's first wrong word.
+#[derive(Clone, Copy)]
+pub struct Wrong<'a> {
+    pub word: &'a [u8],
+    pub fault: Fault,
+}
+
+impl fmt::Display for Wrong<'_> {
+    ghost output = { λ wrong. Some (complaint wrong.word.now wrong.fault) };
+
+    fn fmt<W: fmt::Write>(&self, f: &mut fmt::Formatter<W>) -> fmt::Result {
+        let word = Text(self.word);
+        let fault = self.fault;
+        write!(f, "{word} {fault}")
+    }
+}
+
+// What a word says by itself: a value for a field.
+#[derive(Clone, Copy)]
+struct Word {
+    field: usize,
+    value: u32,
+}
+
+// The first number that is too large for a field. Three ranges of places say it; a table of a field and its size would be no plainer.
 fn limit(field: usize) -> u64
     ensures { result ≡ Line·limit field }
 {
-    if field < 2 {
-        return 0x1_0000_0000;
+    match field {
+        0..=1 => 0x1_0000_0000,
+        2..=8 => 0x1_0000,
+        _ => 0x100,
     }
-    if field < 9 {
-        return 0x1_0000;
-    }
-    0x100
 }
 
 // The number that a field's value is.
-fn value_of(field: usize, value: &[u8]) -> Number
+#[tactic(auto, unfolding(crate::specs::Line::value_of))]
+fn value_of(field: usize, value: &[u8]) -> Option<u64>
     ensures { result ≡ value_of field value.now }
 {
-    let named = words::place_of(value, b"none from to");
-    if (field == DIRECTION) & (named < 3) {
-        return Number {
-            valid: true,
-            value: named as u64,
-        };
+    match words::place_of(value, &DIRECTIONS) {
+        Some(direction) if field == DIRECTION => Some(direction as u64),
+        _ => number::number_of(value),
     }
-    number::number_of(value)
 }
 
-// What a word with this field and this number says.
-fn valued(field: usize, number: Number) -> Word
-    ensures { result ≡ Line·valued field number }
+// The place of the first = of a word.
+fn equals_in(word: &[u8]) -> Option<usize>
+    ensures { result ≡ equals_in word.now }
 {
-    if !number.valid {
-        return wrong(NO_NUMBER);
-    }
-    let value = number.value;
-    if limit(field) <= value {
-        return wrong(LARGE);
-    }
-    Word {
-        fault: 0,
-        field,
-        value: value as u32,
-    }
+    word.iter().position(|byte| *byte == b'=')
 }
 
 // What a word says.
-fn word_of(word: &[u8]) -> Word
+#[tactic(auto, unfolding(crate::specs::Line::word_of))]
+fn word_of(word: &[u8]) -> Result<Word, Fault>
     ensures says { result ≡ word_of word.now }
-    ensures field { result.field < 15 }
+    ensures field { IfOk result (λ said. said.field < 15) }
 {
-    let size = words::up_to(b'=', word);
-    if size == word.len() {
-        return wrong(NO_EQUALS);
+    let size = equals_in(word).ok_or(Fault::NoEquals)?;
+    let field = words::place_of(&word[..size], &FIELDS).ok_or(Fault::NoField)?;
+    let value = value_of(field, &word[size + 1..]).ok_or(Fault::NoNumber)?;
+    if limit(field) <= value {
+        return Err(Fault::TooLarge);
     }
-    let field = words::place_of(&word[..size], &FIELDS);
-    if 15 <= field {
-        return wrong(NO_FIELD);
-    }
-    valued(field, value_of(field, &word[size + 1..]))
+    Ok(Word {
+        field,
+        value: value as u32,
+    })
 }
 
-fn unread() -> Read
-    ensures { result ≡ Line·unread }
+// The values with what a word more says.
+#[tactic(auto, unfolding(crate::specs::Line::with_word))]
+fn with_word(values: Values, word: &[u8]) -> Result<Values, Fault>
+    ensures { result ≡ with_word values word.now }
 {
-    Read {
-        values: [0; 15],
-        given: [false; 15],
-        some: false,
-        fault: 0,
-        start: 0,
-        end: 0,
+    let said = word_of(word)?;
+    let field = said.field;
+    if values[field].is_some() {
+        return Err(Fault::Twice);
     }
-}
-
-// The line with a wrong word.
-fn faulty(read: Read, fault: u8, start: usize, end: usize) -> Read
-    ensures { result ≡ Line·faulty read fault start end }
-{
-    let values = read.values;
-    let given = read.given;
-    Read {
-        values,
-        given,
-        some: true,
-        fault,
-        start,
-        end,
-    }
-}
-
-// The line with a field's value.
-fn giving(read: Read, word: Word) -> Read
-    requires { word.field < 15 }
-    ensures { result ≡ Line·giving read word }
-{
-    let mut values = read.values;
-    let mut given = read.given;
-    let field = word.field;
-    values[field] = word.value;
-    given[field] = true;
-    Read {
-        values,
-        given,
-        some: true,
-        fault: 0,
-        start: 0,
-        end: 0,
-    }
-}
-
-// The line with what a word of it says.
-fn added(read: Read, start: usize, end: usize, word: Word) -> Read
-    requires { word.field < 15 }
-    ensures { result ≡ Line·added read start end word }
-{
-    if word.fault != 0 {
-        return faulty(read, word.fault, start, end);
-    }
-    let given = read.given;
-    let field = word.field;
-    if given[field] {
-        return faulty(read, TWICE, start, end);
-    }
-    giving(read, word)
-}
-
-// The line with one part more.
-fn with_part(read: Read, start: usize, part: &[u8]) -> Read
-    requires { start + length part.now ≤ 4096 }
-    ensures { result ≡ with_part read start part.now }
-{
-    if (read.fault == 0) & (part.len() != 0) {
-        return added(read, start, start + part.len(), word_of(part));
-    }
-    read
+    let mut values = values;
+    values[field] = Some(said.value);
+    Ok(values)
 }
 
 // What the words of a line come to.
-pub fn read_line(line: &[u8]) -> Read
-    requires { length line.now ≤ 4096 }
-    ensures { result ≡ read_line line.now }
+pub fn read_line(line: &[u8]) -> Result<Values, Wrong<'_>>
+    ensures { seen result ≡ read_line line.now }
 {
-    let mut read = unread();
-    let mut start = 0;
-    loop {
-        let rest = &line[start..];
-        let size = words::up_to(b' ', rest);
-        read = with_part(read, start, &rest[..size]);
-        if size == rest.len() {
-            return read;
+    let mut values = [None; 15];
+    for word in line.split(words::is_space).filter(|part| !part.is_empty()) {
+        match with_word(values, word) {
+            Ok(more) => values = more,
+            Err(fault) => return Err(Wrong { word, fault }),
         }
-        start += size + 1;
     }
+    Ok(values)
 }
 
 // The line without a carriage return at its end.
+#[tactic(auto, unfolding(crate::specs::Line::without_return))]
 pub fn without_return(line: &[u8]) -> &[u8]
     ensures { result.now ≡ without_return line.now }
 {
-    if line.len() == 0 {
-        return line;
-    }
-    let last = line.len() - 1;
-    if line[last] == b'\r' {
-        return &line[..last];
-    }
-    line
+    line.strip_suffix(b"\r").unwrap_or(line)
+}
+
+// The value of a field; 0 where it is not given.
+fn value(values: &Values, field: usize) -> u32
+    requires { field < 15 }
+    ensures { result ≡ Line·value values.now field }
+{
+    values[field].unwrap_or(0)
+}
+
+// The same of a field of 16 bits, as a remainder: the type of the values does not say that `read_line` takes no greater one,
+fn short(values: &Values, field: usize) -> u16
+    requires { field < 15 }
+    ensures { result ≡ Line·value values.now field % 0x10000 }
+{
+    (value(values, field) % 0x1_0000) as u16
+}
+
+// and of one of 8.
+fn byte(values: &Values, field: usize) -> u8
+    requires { field < 15 }
+    ensures { result ≡ Line·value values.now field % 0x100 }
+{
+    (value(values, field) % 0x100) as u8
 }
 
 // The order of the values.
-pub fn order_of(values: [u32; 15]) -> Order
-    ensures { result ≡ order_of values }
+pub fn order_of(values: &Values) -> Order
+    ensures { result ≡ order_of values.now }
 {
     Order {
-        length: values[0],
-        auxiliary: values[1],
-        features: (values[2] % 0x1_0000) as u16,
-        count: (values[3] % 0x1_0000) as u16,
-        lba_low: (values[4] % 0x1_0000) as u16,
-        lba_mid: (values[5] % 0x1_0000) as u16,
-        lba_high: (values[6] % 0x1_0000) as u16,
-        quiet_seconds: (values[7] % 0x1_0000) as u16,
-        sectors_per_block: (values[8] % 0x1_0000) as u16,
-        device: (values[9] % 0x100) as u8,
-        command: (values[10] % 0x100) as u8,
-        protocol: (values[11] % 0x100) as u8,
-        ck_cond: (values[12] % 0x100) as u8,
-        extend: (values[13] % 0x100) as u8,
-        direction: (values[14] % 0x100) as u8,
+        length: value(values, 0),
+        auxiliary: value(values, 1),
+        features: short(values, 2),
+        count: short(values, 3),
+        lba_low: short(values, 4),
+        lba_mid: short(values, 5),
+        lba_high: short(values, 6),
+        quiet_seconds: short(values, 7),
+        sectors_per_block: short(values, 8),
+        device: byte(values, 9),
+        command: byte(values, 10),
+        protocol: byte(values, 11),
+        ck_cond: byte(values, 12),
+        extend: byte(values, 13),
+        direction: byte(values, 14),
     }
+}
+
+// The order that a line names, or its first wrong word.
+pub fn order_named(line: &[u8]) -> Result<Order, Wrong<'_>>
+    ensures { seen result ≡ order_named line.now }
+{
+    let values = read_line(line)?;
+    Ok(order_of(&values))
 }

@@ -1,2 +1,1 @@
 -- The laws of what is shown.
-mod Shows

@@ -2,143 +2,96 @@
 // specs/Shown.
 #![tactic(auto)]
 
-ghost use Rattle.std.specs.Prelude.{◌≡◌, List, ◌≤◌, length};
-ghost use Rattle.io.specs.Counts.{IsPrefixLen};
-ghost use Rattle.room.specs.Room.{Wrote};
-ghost use Rattle.order_shown.specs.Shown.{end_of, shown_byte, shown_bytes, shown_refusal, shown_built, nothing as Shown·nothing, complaining as Shown·complaining, saying, answer_to};
+ghost use Rattle.std.specs.Prelude.{◌≡◌, Some, take};
+ghost use Rattle.std.specs.List.{list_all};
+ghost use Rattle.order_words.specs.Words.{is_space};
+ghost use Rattle.order_shown.specs.Shown.{shown_byte, shown_bytes, shown_built, passed_over as Shown·passed_over, answer_to};
+ghost use Rattle.order_lines.specs.Line.{seen};
 
 use builder::Built;
+use order_lines::Wrong;
+use order_words::words;
+use std::fmt;
 
-// What a line comes to: the text to print, the first `count` bytes of it; or what is wrong, 0 where nothing is, and the places from and up
-// to which the wrong word stands.
+// A byte of a command: two hexadecimal digits.
 #[derive(Clone, Copy)]
-pub struct Answer {
-    pub fault: u8,
-    pub start: usize,
-    pub end: usize,
-    pub count: usize,
-    pub text: [u8; 48],
-}
+struct Byte(u8);
 
-// What stands behind a byte.
-fn end_of(last: bool) -> u8
-    ensures { result ≡ end_of last }
-{
-    if last {
-        return b'\n';
-    }
-    b' '
-}
+impl fmt::Display for Byte {
+    ghost output = { λ byte. Some (shown_byte byte.0) };
 
-// A byte's two digits, and what stands behind them.
-fn shown_byte(byte: u8, last: bool) -> [u8; 3]
-    ensures { result ≡ shown_byte byte last }
-{
-    [
-        output::digit(byte / 16),
-        output::digit(byte % 16),
-        end_of(last),
-    ]
-}
-
-// Puts the digits of bytes at the front of a text.
-fn put_bytes(text: &mut [u8], bytes: &[u8])
-    requires { length bytes.now ≤ 16 }
-    ensures { Wrote text.old 0 (shown_bytes bytes.now) text.new }
-{
-    let mut i = 0;
-    while i < bytes.len() {
-        let shown = shown_byte(bytes[i], i + 1 == bytes.len());
-        room::put(text, 3 * i, &shown);
-        i += 1;
+    fn fmt<W: fmt::Write>(&self, f: &mut fmt::Formatter<W>) -> fmt::Result {
+        let byte = self.0;
+        write!(f, "{byte:02x}")
     }
 }
 
-// Puts a refusal's number at the front of a text.
-fn put_refusal(text: &mut [u8], number: u8)
-    ensures { Wrote text.old 0 (shown_refusal number) text.new }
-{
-    let digits = [
-        output::digit(number / 10 % 10),
-        output::digit(number % 10),
-        b'\n',
-    ];
-    room::put(text, 0, b"refused ");
-    room::put(text, 8, &digits);
-}
+// The bytes of a command, with a space before each but the first.
+#[derive(Clone, Copy)]
+struct Bytes<'a>(&'a [u8]);
 
-// A line of which nothing is said.
-fn nothing() -> Answer
-    ensures { result ≡ Shown·nothing }
-{
-    Answer {
-        fault: 0,
-        start: 0,
-        end: 0,
-        count: 0,
-        text: [0; 48],
-    }
-}
+impl fmt::Display for Bytes<'_> {
+    ghost output = { λ bytes. Some (shown_bytes bytes.0.now) };
 
-// A line with a wrong word.
-fn complaining(fault: u8, start: usize, end: usize) -> Answer
-    ensures { result ≡ Shown·complaining fault start end }
-{
-    Answer {
-        fault,
-        start,
-        end,
-        count: 0,
-        text: [0; 48],
-    }
-}
-
-// What is shown of what was built.
-fn of_built(built: Built) -> Answer
-    ensures says { result ≡ saying (shown_built built) }
-    ensures counts { IsPrefixLen result.count result.text }
-{
-    let mut text = [0u8; 48];
-    if built.number != 0 {
-        put_refusal(&mut text, built.number);
-        return Answer {
-            fault: 0,
-            start: 0,
-            end: 0,
-            count: 11,
-            text,
+    fn fmt<W: fmt::Write>(&self, f: &mut fmt::Formatter<W>) -> fmt::Result {
+        let Some((first, others)) = self.0.split_first() else {
+            return Ok(());
         };
+        write!(f, "{}", Byte(*first))?;
+        for byte in others {
+            write!(f, " {}", Byte(*byte))?;
+        }
+        Ok(())
     }
-    let command = built.command;
-    let sent = rules::part(&command, 0, built.size as usize);
-    put_bytes(&mut text, sent);
-    Answer {
-        fault: 0,
-        start: 0,
-        end: 0,
-        count: 3 * sent.len(),
-        text,
+}
+
+// The bytes of a command that are to be sent.
+fn sent(built: &Built) -> &[u8]
+    ensures { result.now ≡ take built.now.size built.now.command }
+{
+    rules::part(&built.command, 0, usize::from(built.size))
+}
+
+// What is printed of an order, a line: the command that is built for it, or its refusal. `Built` is C's: its number is 0 for a command.
+#[derive(Clone, Copy)]
+pub struct Answer(pub Built);
+
+impl fmt::Display for Answer {
+    ghost output = { λ answer. Some (shown_built answer.0) };
+
+    fn fmt<W: fmt::Write>(&self, f: &mut fmt::Formatter<W>) -> fmt::Result {
+        let number = self.0.number;
+        if number != 0 {
+            return write!(f, "refused {number}\n");
+        }
+        let sent = Bytes(sent(&self.0));
+        write!(f, "{sent}\n")
     }
+}
+
+// Whether a line has no word.
+fn wordless(line: &[u8]) -> bool
+    ensures { result ≡ list_all is_space line.now }
+{
+    line.iter().all(words::is_space)
+}
+
+// Whether nothing is said of a line: it has no word, or # for its first byte.
+fn passed_over(line: &[u8]) -> bool
+    ensures { result ≡ Shown·passed_over line.now }
+{
+    rules::byte(line, 0) == b'#' || wordless(line)
 }
 
 // What comes of a line.
-pub fn answer_to(line: &[u8]) -> Answer
-    requires { length line.now ≤ 4096 }
-    ensures says { result ≡ answer_to line.now }
-    ensures counts { IsPrefixLen result.count result.text }
-    ensures place { result.start ≤ result.end }
+#[tactic(auto, unfolding(crate::specs::Shown::answer_for))]
+pub fn answer_to(line: &[u8]) -> Result<Option<Answer>, Wrong<'_>>
+    ensures { seen result ≡ answer_to line.now }
 {
     let line = order_lines::without_return(line);
-    if rules::byte(line, 0) == b'#' {
-        return nothing();
+    if passed_over(line) {
+        return Ok(None);
     }
-    let read = order_lines::read_line(line);
-    if read.fault != 0 {
-        return complaining(read.fault, read.start, read.end);
-    }
-    if !read.some {
-        return nothing();
-    }
-    let values = read.values;
-    of_built(builder::build(order_lines::order_of(values)))
+    let order = order_lines::order_named(line)?;
+    Ok(Some(Answer(builder::build(order))))
 }

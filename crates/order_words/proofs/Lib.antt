@@ -1,3 +1,3 @@
--- Laws of words and numbers; the last are for the crate's own functions.
-pub mod Marks
+-- Laws of words and numbers, for the crate's own functions.
 mod Numbers
+mod Places

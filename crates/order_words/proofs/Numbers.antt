@@ -1,94 +1,69 @@
 -- Laws of digits and of the numbers that they make.
-use mathlib.Core.Path.{◌≡◌, refl, sym, ap, ◌∙◌}
-use mathlib.Core.Bool.{true, false, ◌&&◌, and-eq-true_iff, false≢true}
+use Rattle.std.proofs.Common.{◌≡◌, refl, sym, ap, ◌∙◌, ℕ, suc, ◌+◌, ◌*◌, ◌-◌, ◌^◌, ◌≤◌, ◌<◌, min, List, [], ◌∷◌, length, get_or, drop, drop-cons, arith, Option, Some, None, option_and_then}
 use mathlib.Core.Logic.{⊎_elim}
-use mathlib.Core.List.{List, [], ◌∷◌}
-use Prim.Native.Nat.{ℕ, suc, ◌+◌, ◌*◌, ◌-◌, ◌≤◌, ◌<◌, min}
 use native.Mathlib.Nat.{mul-le-mul_right, eq-zero-or-pos}
-use native.Mathlib.Omega.{arith}
-use lib.Dec.{eqb, leb, ltb}
-use borrow.Author.Tests.{leb-true, lt-ltb, le-ltb}
-use lib.ListN.{length, get_or, drop, drop_of_length-le}
-use lib.Seq.{drop-cons}
-use Rattle.order_words.specs.Number.{within, digit, digits, worth, too_large, hexadecimal}
+use native.Mathlib.Numerals.{add-one}
+use lib.ListN.{drop_of_length-le}
+use Rattle.std.specs.Char.{digit_value}
+use Rattle.std.specs.Option.{SomeIff}
+use Rattle.std.proofs.lemmas.Bool.Decides.{nat_tests}
+use Rattle.order_words.specs.Number.{digit, digit_of, worth, held}
 
--- A byte within two others is not below the first.
-pub not_below : (first last byte : ℕ) → within first last byte ≡ true → first ≤ byte
-not_below first last byte e = leb-true first byte ((and-eq-true_iff (leb first byte) (leb byte last)).0 e).0
-
--- Two bytes stand in front of a hexadecimal number.
-pub two_in_front : (text : List ℕ) → hexadecimal text ≡ true → 2 ≤ length text
-two_in_front [] e = absurd (false≢true e)
-two_in_front (a ∷ []) e = absurd (false≢true ((and-eq-true_iff (eqb a 0x30) false).0 e).1)
-two_in_front (a ∷ b ∷ text) e = omega arith
-
--- A number below 16 times one that is not too large has few digits enough for 64 bits.
-pub product_low : (base before : ℕ) → base ≤ 16 → before ≤ too_large → base * before ≤ 16 * too_large
-product_low base before b h =
-    let one : base * before ≤ 16 * before = mul-le-mul_right before b in
-    omega (arith, one)
+-- What 64 bits hold.
+abbrev top : ℕ
+top = 2 ^ 64 - 1
 
 -- What is too large stays so with one digit more: the greater part of it may be forgotten,
-forgotten : (base x d : ℕ) → 1 ≤ base → min (base * min x too_large + d) too_large ≡ min (base * x + d) too_large
-forgotten base x d h = ⊎_elim small great (eq-zero-or-pos (x - too_large))
+forgotten : (base x d c : ℕ) → 1 ≤ base → min (base * min x c + d) c ≡ min (base * x + d) c
+forgotten base x d c h = ⊎_elim small great (eq-zero-or-pos (x - c))
   where
-    small : x - too_large ≡ 0 → min (base * min x too_large + d) too_large ≡ min (base * x + d) too_large
+    small : x - c ≡ 0 → min (base * min x c + d) c ≡ min (base * x + d) c
     small z =
-        let e : min x too_large ≡ x = omega (arith, z) in
+        let e : min x c ≡ x = omega (arith, z) in
         rw e
 
-    great : 0 < x - too_large → min (base * min x too_large + d) too_large ≡ min (base * x + d) too_large
+    great : 0 < x - c → min (base * min x c + d) c ≡ min (base * x + d) c
     great z =
-        let e : min x too_large ≡ too_large = omega (arith, z) in
-        let one : 1 * too_large ≤ base * too_large = mul-le-mul_right too_large h in
+        let e : min x c ≡ c = omega (arith, z) in
+        let one : 1 * c ≤ base * c = mul-le-mul_right c h in
         let two : 1 * x ≤ base * x = mul-le-mul_right x h in
         rw e (omega (arith, one, two, z))
 
 -- and with all digits that are left.
-capped : (base x : ℕ) (text : List ℕ) → 1 ≤ base → min (worth base (min x too_large) text) too_large ≡ min (worth base x text) too_large
+abbrev Capped : ℕ → List ℕ → Type 0
+Capped base text = (x : ℕ) → held (worth base (min x top) text) ≡ held (worth base x text)
+
+capped_step : (base x : ℕ) (text : List ℕ) (digit : Option ℕ) → 1 ≤ base → Capped base text → held (option_and_then (λ d. worth base (base * min x top + d) text) digit) ≡ held (option_and_then (λ d. worth base (base * x + d) text) digit)
+capped_step base x text None h r = refl
+capped_step base x text (Some d) h r =
+    sym (r (base * min x top + d))
+    ∙ ap (λ (n : ℕ). held (worth base n text)) (forgotten base x d top h)
+    ∙ r (base * x + d)
+
+capped : (base : ℕ) (text : List ℕ) → 1 ≤ base → Capped base text
 unfolding worth
-capped base x [] h = omega arith
-capped base x (byte ∷ text) h =
-    sym (capped base (base * min x too_large + digit byte) text h)
-    ∙ ap (λ (n : ℕ). min (worth base n text) too_large) (forgotten base x (digit byte) h)
-    ∙ capped base (base * x + digit byte) text h
+capped base [] h x = ap Some (omega arith)
+capped base (byte ∷ text) h x = capped_step base x text (digit_of base byte) h (capped base text h)
 
--- A loop over the digits of a number, before its turn i.
-pub record Counting (base : ℕ) (text : List ℕ) (value i : ℕ) : Type 0 where
-  pub upto : i ≤ length text
-  pub small : value ≤ too_large
-  pub left : min (worth base value (drop i text)) too_large ≡ min (worth base 0 text) too_large
-  pub all : digits base (drop i text) ≡ digits base text
+-- A loop over the digits of a text, at its turn i, with the number so far: no digit,
+pub no_digit : (base n i : ℕ) (text : List ℕ) → i < length text → digit_of base (get_or text i 0) ≡ None → held (worth base n (drop i text)) ≡ None
+unfolding worth
+no_digit base n i text h e = rw (drop-cons text i 0 h, e)
 
-pub none_yet : (base : ℕ) (text : List ℕ) → Counting base text 0 0
-none_yet base text = record { upto = omega arith; small = omega arith; left = refl; all = refl }
+-- a digit,
+pub one_more : (base n i d : ℕ) (text : List ℕ) → 1 ≤ base → i < length text → digit_of base (get_or text i 0) ≡ Some d → held (worth base (min (min (n * base) top + d) top) (drop (i + 1) text)) ≡ held (worth base n (drop i text))
+unfolding worth
+one_more base n i d text b h e =
+    let m : min (min (n * base) top + d) top ≡ min (base * n + d) top = omega arith in
+    rw (drop-cons text i 0 h, e, m, add-one) (capped base (drop (suc i) text) b (base * n + d))
 
-pub one_more : {base : ℕ} {text : List ℕ} {value i d next : ℕ} → 1 ≤ base → Counting base text value i → i < length text → d ≡ digit (get_or text i 0) → d < base → next ≡ min (base * value + d) too_large → Counting base text next (i + 1)
-unfolding worth digits
-one_more {base} {text} {value} {i} {d} {next} b s h e low n =
-    let k : i + 1 ≡ suc i = omega arith in
-    let t : ltb (digit (get_or text i 0)) base ≡ true = rw (← e) (lt-ltb d base low) in
-    let left : min (worth base (base * value + digit (get_or text i 0)) (drop (suc i) text)) too_large ≡ min (worth base 0 text) too_large = rw (drop-cons text i 0 h) at s.left in
-    let all : ltb (digit (get_or text i 0)) base && digits base (drop (suc i) text) ≡ digits base text = rw (drop-cons text i 0 h) at s.all in
-    record {
-      upto = omega arith;
-      small = omega (arith, n);
-      left = rw (k, n, e) (capped base (base * value + digit (get_or text i 0)) (drop (suc i) text) b ∙ left);
-      all = rw k (rw t at all);
-    }
+-- and the end.
+pub all_digits : (base n i : ℕ) (text : List ℕ) → length text ≤ i → n ≤ top → held (worth base n (drop i text)) ≡ Some n
+unfolding worth
+all_digits base n i text h low = rw (drop_of_length-le text {i = i} h) (ap Some (omega arith))
 
--- A byte that is no digit: the text is no number.
-pub no_digit : {base : ℕ} {text : List ℕ} {value i d : ℕ} → Counting base text value i → i < length text → d ≡ digit (get_or text i 0) → base ≤ d → digits base text ≡ false
-unfolding digits
-no_digit {base} {text} {value} {i} {d} s h e high =
-    let t : ltb (digit (get_or text i 0)) base ≡ false = rw (← e) (le-ltb d base high) in
-    let all : ltb (digit (get_or text i 0)) base && digits base (drop (suc i) text) ≡ digits base text = rw (drop-cons text i 0 h) at s.all in
-    sym (rw t at all)
-
--- All digits have been counted.
-pub counted : {base : ℕ} {text : List ℕ} {value i : ℕ} → Counting base text value i → length text ≤ i → (digits base text ≡ true) × (value ≡ min (worth base 0 text) too_large)
-unfolding worth digits
-counted {base} {text} {value} {i} s h =
-    let none : drop i text ≡ [] = drop_of_length-le text {i = i} h in
-    let left : min value too_large ≡ min (worth base 0 text) too_large = rw none at s.left in
-    (sym (rw none at s.all), omega (arith, left, s.small))
+-- What std gives for a byte is its digit.
+pub digit_is : (base byte : ℕ) (r : Option ℕ) → base ≤ 16 → SomeIff r (digit_value byte < base) (digit_value byte) → r ≡ digit_of base byte
+unfolding digit digit_of
+digit_is base byte None h none = grind (arith, nat_tests)
+digit_is base byte (Some d) h some = grind (arith, nat_tests)

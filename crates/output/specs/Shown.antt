@@ -1,6 +1,6 @@
--- How the programs show a byte of a drive's text, so that a line stays a line and no byte gives a command to a terminal.
-use Rattle.std.specs.Prelude.{Bool, cond, ◌&&◌, List, [], ◌∷◌, ℕ, ◌/◌, ◌%◌, eqb, leb}
-use Rattle.io.specs.Digits.{hex_digit_ascii}
+-- How the programs show a byte of a text, so that a line stays a line and no byte gives a command to a terminal.
+use Rattle.std.specs.Prelude.{Bool, false, cond, ◌&&◌, List, [], ◌∷◌, ℕ, ◌/◌, ◌%◌, eqb, leb}
+use Rattle.std.specs.Fmt.{digit_glyph}
 
 -- From the space to the tilde.
 abbrev pub printable : ℕ → Bool
@@ -11,4 +11,4 @@ unfoldable pub shown : ℕ → List ℕ
 shown byte =
     cond (eqb byte 0x5C) (0x5C ∷ 0x5C ∷ [])
     (cond (printable byte) (byte ∷ [])
-    (0x5C ∷ 0x78 ∷ hex_digit_ascii (byte / 0x10) ∷ hex_digit_ascii (byte % 0x10) ∷ []))
+    (0x5C ∷ 0x78 ∷ digit_glyph false (byte / 0x10) ∷ digit_glyph false (byte % 0x10) ∷ []))

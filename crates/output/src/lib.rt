@@ -1,50 +1,49 @@
-// Output: how the board's programs show a byte of a drive's text. What they write by calls of C's no contract can say, so each program
-// does that itself.
+// Output: how the board's programs show a text that a drive or a person gave.
 #![tactic(auto)]
 
-ghost use Rattle.std.specs.Prelude.{◌≡◌, ◌<◌, take};
-ghost use Rattle.io.specs.Counts.{IsPrefixLen};
-ghost use Rattle.io.specs.Digits.{hex_digit_ascii};
-ghost use Rattle.output.specs.Shown.{shown};
+ghost use Rattle.std.specs.Prelude.{◌≡◌, Some};
+ghost use Rattle.std.specs.List.{flat_map};
+ghost use Rattle.output.specs.Shown.{printable, shown};
 
-// A byte of a text as it is shown: the first `count` of these bytes.
+use std::fmt;
+
+// Whether a byte is shown as it is: from the space to the tilde.
+fn printable(byte: u8) -> bool
+    ensures { result ≡ printable byte }
+{
+    (0x20..=0x7E).contains(&byte)
+}
+
+// A byte of a text, as it is shown.
 #[derive(Clone, Copy)]
-pub struct Shown {
-    pub bytes: [u8; 4],
-    pub count: usize,
+pub struct Shown(pub u8);
+
+impl fmt::Display for Shown {
+    ghost output = { λ s. Some (shown s.0) };
+
+    fn fmt<W: fmt::Write>(&self, f: &mut fmt::Formatter<W>) -> fmt::Result {
+        let byte = self.0;
+        if byte == b'\\' {
+            return write!(f, "\\\\");
+        }
+        if printable(byte) {
+            return write!(f, "{}", char::from(byte));
+        }
+        write!(f, "\\x{byte:02x}")
+    }
 }
 
-// The hexadecimal digit of a number.
-pub fn digit(number: u8) -> u8
-    requires { number < 16 }
-    ensures { result ≡ hex_digit_ascii number }
-{
-    if number < 10 {
-        return 48 + number;
-    }
-    87 + number
-}
+// A text, each byte as it is shown: what a drive calls itself gives no commands to a terminal.
+#[derive(Clone, Copy)]
+pub struct Text<'a>(pub &'a [u8]);
 
-// What is shown for a byte of a text.
-#[tactic(auto, unfolding(crate::specs::Shown::shown))]
-pub fn show(byte: u8) -> Shown
-    ensures counts { IsPrefixLen result.count result.bytes }
-    ensures shows { take result.count result.bytes ≡ shown byte }
-{
-    if byte == b'\\' {
-        return Shown {
-            bytes: [b'\\', b'\\', 0, 0],
-            count: 2,
-        };
-    }
-    if (0x20 <= byte) & (byte <= 0x7E) {
-        return Shown {
-            bytes: [byte, 0, 0, 0],
-            count: 1,
-        };
-    }
-    Shown {
-        bytes: [b'\\', b'x', digit(byte / 16), digit(byte % 16)],
-        count: 4,
+impl fmt::Display for Text<'_> {
+    ghost output = { λ t. Some (flat_map shown t.0.now) };
+
+    fn fmt<W: fmt::Write>(&self, f: &mut fmt::Formatter<W>) -> fmt::Result {
+        for byte in self.0 {
+            write!(f, "{}", Shown(*byte))?;
+        }
+        Ok(())
     }
 }

@@ -1,31 +1,30 @@
 // Program words: what a word behind a program's name asks for. The rule stands in specs/Words; what comes of it is in `input`.
 #![tactic(auto)]
 
-ghost use Rattle.std.specs.Prelude.{◌≡◌};
+ghost use Rattle.std.specs.Prelude.{◌≡◌, Option};
 ghost use Rattle.program_words.specs.Words.{wanted_by};
 
-// What the words ask for. Complained stands for words that ask for nothing that can be done, once that has been said.
-#[derive(Clone, Copy)]
+// What a program is asked for.
+#[derive(Clone, Copy, Debug, PartialEq, Eq)]
 pub enum Wanted {
     Read,
     Help,
     Version,
-    Complained,
 }
 
-// What a word asks for.
+// What a word asks for. None is a word that asks for nothing that there is.
 #[tactic(auto, unfolding(crate::specs::Words::wanted_by))]
-pub fn word_wants(word: &[u8]) -> Wanted
+pub fn word_wants(word: &[u8]) -> Option<Wanted>
     ensures { result ≡ wanted_by word.now }
 {
-    if identify::same_bytes(word, b"--help") {
-        return Wanted::Help;
+    if word == b"--help".as_slice() {
+        return Some(Wanted::Help);
     }
-    if identify::same_bytes(word, b"--version") {
-        return Wanted::Version;
+    if word == b"--version".as_slice() {
+        return Some(Wanted::Version);
     }
-    if rules::byte(word, 0) == b'-' {
-        return Wanted::Complained;
+    if word.starts_with(b"-") {
+        return None;
     }
-    Wanted::Read
+    Some(Wanted::Read)
 }

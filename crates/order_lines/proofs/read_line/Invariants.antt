@@ -1,11 +1,8 @@
--- `read_line`: the parts before the place have been read.
-use Prim.Native.Nat.{◌-◌}
-use lib.ListN.{length}
-use Rattle.order_lines.proofs.Readings.{Reading}
+-- `read_line`: the words so far are read.
+use Rattle.std.proofs.Common.{◌≡◌, length, drop}
+use Rattle.order_words.specs.Words.{words}
+use Rattle.order_lines.specs.Line.{with_words, read_line}
 use Rattle.order_lines.proofs.read_line.Given as goal
 
-abbrev pub invariant-loop-read : goal.invariant-loop-read
-invariant-loop-read l = Reading l.line l.read l.start
-
-abbrev pub decreases-loop-read : goal.decreases-loop-read
-decreases-loop-read l = length l.line - l.start
+abbrev pub invariant-loop-word : goal.invariant-loop-word
+invariant-loop-word l = with_words l.values (drop (length l.yielded) (words l.line)) ≡ read_line l.line

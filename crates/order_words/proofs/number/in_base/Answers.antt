@@ -1,23 +1,22 @@
--- `in_base`: all bytes so far are digits, and what they make is counted.
-use borrow.Author.Tests.{eq-eqb, ne_eqb}
-use Rattle.order_words.specs.Number.{in_base}
-use Rattle.order_words.proofs.Numbers.{one_more, no_digit, counted}
+-- `in_base`: what is left makes, behind the number so far, what all make.
+use Rattle.std.proofs.Common.{◌≡◌, sym, ◌∙◌, arith, false, eqb, length}
+use Rattle.order_words.proofs.Numbers.{no_digit, one_more, all_digits}
 use Rattle.order_words.proofs.number.in_base.Goals as goal
 
-pub returns-then-text-eq0 : goal.returns-then-text-eq0
-unfolding in_base
-returns-then-text-eq0 c = rw (c.none.ensures, eq-eqb _ 0 c.if-text-eq0.true)
+pub loop-byte-preserved : goal.loop-byte-preserved
+loop-byte-preserved c =
+    let e = sym c.digit.ensures ∙ c.in_ok-digit.was in
+    let n = rw (c.saturating_mul.ensures, c.from.ensures, c.from-in-loop-byte.ensures) at c.saturating_add-number.ensures in
+    (c.saturating_add-number.type_inv, rw n (one_more c.args.base c.loop-byte.number c.loop-byte.byte-index c.in_ok-digit.digit c.args.text.now (omega arith) c.loop-byte-test.true e ∙ c.loop-byte.invariant.1))
 
-pub returns-then-base-digit : goal.returns-then-base-digit
-unfolding in_base
-returns-then-base-digit c =
-    rw (c.none-then-base-digit.ensures, ne_eqb _ 0 c.if-text-eq0.false, no_digit c.loop-i.invariant c.loop-i-test.true c.digit-digit.ensures c.if-base-digit.true)
-
-pub loop-i-preserved : goal.loop-i-preserved
-loop-i-preserved c = one_more c.requires.0 c.loop-i.invariant c.loop-i-test.true c.digit-digit.ensures c.if-base-digit.false c.with_digit-value.ensures
+pub returns-in_err-digit : goal.returns-in_err-digit
+returns-in_err-digit c =
+    let e : eqb (length c.args.text.now) 0 ≡ false = sym c.is_empty.ensures ∙ c.if-is_empty.false in
+    let none = no_digit c.args.base c.loop-byte.number c.loop-byte.byte-index c.args.text.now c.loop-byte-test.true (sym c.digit.ensures ∙ c.in_err-digit.was) in
+    rw e (c.from_residual.ensures ∙ sym none ∙ c.loop-byte.invariant.1)
 
 pub returns : goal.returns
-unfolding in_base
 returns c =
-    let all = counted c.loop-i.invariant c.loop-i-test.false in
-    rw (ne_eqb _ 0 c.if-text-eq0.false, all.0, ← all.1)
+    let e : eqb (length c.args.text.now) 0 ≡ false = sym c.is_empty.ensures ∙ c.if-is_empty.false in
+    let some = all_digits c.args.base c.loop-byte.number c.loop-byte.byte-index c.args.text.now c.loop-byte-test.false (omega arith) in
+    rw e (sym some ∙ c.loop-byte.invariant.1)

@@ -1,18 +1,13 @@
--- `place_of`: no part before the place is the word.
-use mathlib.Core.Path.{sym, ◌∙◌}
-use native.Mathlib.Omega.{arith}
-use Rattle.order_words.proofs.Marks.{rest_is, placed_here, placed_behind, placed_nowhere}
+-- `place_of`: std's position, at what the list's references point to.
+use Rattle.std.proofs.Common.{rules, sym, ◌∙◌, tests}
+use Rattle.std.specs.Str.{bytes_eq}
+use Rattle.std.proofs.lemmas.Iterator.{YieldsList-from_slice}
+use Rattle.std.proofs.lemmas.Iterator.Search.{position_from_yields_List}
+use Rattle.order_words.proofs.Places.{position_at_map}
 use Rattle.order_words.proofs.words.place_of.Goals as goal
 
-pub returns-then-same_bytes : goal.returns-then-same_bytes
-returns-then-same_bytes c =
-    placed_here c.loop-rest.invariant (rest_is _ c.loop-rest.start) c.up_to-size.ensures.stops c.up_to-size.ensures.counts (sym c.same_bytes.ensures ∙ c.if-same_bytes.true)
-
-pub returns-then-size-rest : goal.returns-then-size-rest
-returns-then-size-rest c =
-    placed_nowhere c.loop-rest.invariant (rest_is _ c.loop-rest.start) c.up_to-size.ensures.stops c.up_to-size.ensures.counts (sym c.same_bytes.ensures ∙ c.if-same_bytes.false) c.if-size-rest.true
-
-pub loop-rest-preserved : goal.loop-rest-preserved
-loop-rest-preserved c =
-    let u = c.up_to-size.ensures in
-    placed_behind c.loop-rest.invariant (rest_is _ c.loop-rest.start) u.stops u.counts (sym c.same_bytes.ensures ∙ c.if-same_bytes.false) (omega (arith, u.counts, c.if-size-rest.false))
+pub returns : goal.returns
+returns c =
+    let word = c.args.word.now in
+    position_from_yields_List (λ other. bytes_eq word other.now) _ _ c.position.result c.position.ensures.ran (YieldsList-from_slice c.args.list.now c.iter.ensures.rest) (λ x b q k. search (rules, tests))
+    ∙ sym (position_at_map (bytes_eq word) (λ other. other.now) c.args.list.now)

@@ -1,9 +1,0 @@
--- `drives`: each image once.
-use Rattle.std.proofs.Common.{◌-◌, ◌≤◌}
-use Rattle.health.proofs.drives.Given as goal
-
-abbrev pub invariant-loop-i : goal.invariant-loop-i
-invariant-loop-i l = l.i ≤ l.count
-
-abbrev pub decreases-loop-i : goal.decreases-loop-i
-decreases-loop-i l = l.count - l.i

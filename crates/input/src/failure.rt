@@ -1,0 +1,36 @@
+// Failure: why a program does not print what it was asked for. How it says so is in the crate's root.
+use std::io::Error;
+
+// Why input could not be read: standard input, or the file that a word names.
+#[derive(Clone, Copy)]
+pub enum Unread {
+    Standard,
+    File { word: usize, error: Error },
+}
+
+// Why a program does not print what it was asked for.
+#[derive(Clone, Copy)]
+pub enum Failure<C> {
+    // a word that is longer than any name of a file
+    LongWord(usize),
+    // a word that looks like an option and is none
+    NoOption(usize),
+    Unread(Unread),
+    // what the program finds wrong with its input
+    Wrong(C),
+    // standard output could not be written
+    Unwritten,
+}
+
+impl<C> From<Unread> for Failure<C> {
+    fn from(unread: Unread) -> Failure<C> {
+        Failure::Unread(unread)
+    }
+}
+
+// A program writes on standard output alone.
+impl<C> From<Error> for Failure<C> {
+    fn from(_error: Error) -> Failure<C> {
+        Failure::Unwritten
+    }
+}

@@ -1,0 +1,160 @@
+// Stream: the bytes that a program is given: those of the files that its words name, one file behind the other, or of standard input
+// where there is no word. Some of them at a time is `read`, for input of any size; all at once is `whole`.
+ghost use Rattle.std.specs.Prelude.{◌≡◌, ◌<◌, ◌≤◌, ◌*◌, length, take, IfOk};
+
+use crate::System;
+use crate::failure::{Failure, Unread};
+use std::env::FillError;
+use std::fs::File;
+use std::io;
+use std::io::{Error, ErrorKind, Read};
+
+// What is read: standard input, or the file that a word names.
+#[derive(Drop)]
+enum Source {
+    Standard,
+    File { word: usize, file: File },
+}
+
+#[derive(Drop)]
+pub struct Stream<'a, S: System> {
+    rt: &'a S,
+    source: Source,
+}
+
+// Whether there is a word i, of whatever size.
+fn has_word(rt: &impl System, i: usize) -> bool {
+    !matches!(rt.arg(i, &mut []), Err(FillError::NotPresent))
+}
+
+// Opens the file of a name. The system's names are text.
+fn open_path(rt: &impl System, path: &[u8]) -> io::Result<File> {
+    match str::from_utf8(path) {
+        Ok(name) => File::open(rt, name),
+        Err(_) => Err(Error::new(ErrorKind::InvalidFilename, "the name is not UTF-8")),
+    }
+}
+
+// Opens the file that a word names. A word that is not there names no file.
+fn open_word(rt: &impl System, word: usize) -> Result<Source, Unread> {
+    let mut path = [0u8; 4096];
+    let n = rt.arg(word, &mut path).unwrap_or(0);
+    match open_path(rt, &path[..n]) {
+        Ok(file) => Ok(Source::File { word, file }),
+        Err(error) => Err(Unread::File { word, error }),
+    }
+}
+
+// Opens the first file, or standard input.
+impl<'a, S: System> TryFrom<&'a S> for Stream<'a, S> {
+    type Error = Unread;
+
+    fn try_from(rt: &'a S) -> Result<Stream<'a, S>, Unread> {
+        let source = if has_word(rt, 1) {
+            open_word(rt, 1)?
+        } else {
+            Source::Standard
+        };
+        Ok(Stream { rt, source })
+    }
+}
+
+impl<'a, S: System> Stream<'a, S> {
+    // Reads once from what is open.
+    fn read_once(&mut self, buffer: &mut [u8]) -> Result<usize, Unread>
+        ensures { IfOk result (λ n. n ≤ length buffer.new) }
+    {
+        match &mut self.source {
+            Source::Standard => self.rt.reader().read(buffer).map_err(|_| Unread::Standard),
+            Source::File { word, file } => match file.read(buffer) {
+                Ok(n) => Ok(n),
+                Err(error) => Err(Unread::File { word: *word, error }),
+            },
+        }
+    }
+
+    // Opens the file behind the one that is open, if there is one.
+    fn go_on(&mut self) -> Result<bool, Unread> {
+        let Source::File { word, .. } = self.source else {
+            return Ok(false);
+        };
+        let Some(next) = word.checked_add(1) else {
+            return Ok(false);
+        };
+        if !has_word(self.rt, next) {
+            return Ok(false);
+        }
+        self.source = open_word(self.rt, next)?;
+        Ok(true)
+    }
+
+    // Reads some bytes into the front of a buffer, and gives how many: none at the end of the input. An empty buffer takes none, but each
+    // file is opened and read, so that one that cannot be is told.
+    pub fn read(&mut self, buffer: &mut [u8]) -> Result<usize, Unread>
+        ensures { IfOk result (λ n. n ≤ length buffer.new) }
+    {
+        for _ in 0..usize::MAX {
+            let n = self.read_once(buffer)?;
+            if n > 0 || !self.go_on()? {
+                return Ok(n);
+            }
+        }
+        Ok(0)
+    }
+
+    // Reads some bytes behind those that are there, and gives how many there are then.
+    fn read_behind(&mut self, buffer: &mut [u8], start: usize) -> Result<usize, Unread>
+        requires { start ≤ length buffer.old }
+        ensures counts { IfOk result (λ n. (start ≤ n) × (n ≤ length buffer.new)) }
+        ensures keeps { take start buffer.new ≡ take start buffer.old }
+        ensures size { length buffer.new ≡ length buffer.old }
+    {
+        let more = self.read(&mut buffer[start..])?;
+        Ok(start + more)
+    }
+
+    // Fills a buffer, as far as the input goes. It ends where a read brings nothing, which no count says before: so it is a `loop`.
+    fn fill(&mut self, buffer: &mut [u8]) -> Result<usize, Unread>
+        ensures { IfOk result (λ n. n ≤ length buffer.new) }
+    {
+        let mut done = 0;
+        loop {
+            let now = self.read_behind(buffer, done)?;
+            if now == done {
+                return Ok(done);
+            }
+            done = now;
+        }
+    }
+
+    // All bytes of the input, as far as a buffer takes them. Lend one byte more than may come: a full buffer then says that more came.
+    pub fn whole<'b>(&mut self, buffer: &'b mut [u8]) -> Result<&'b [u8], Unread>
+        ensures { IfOk result (λ bytes. length bytes.now ≤ length buffer.old) }
+    {
+        let n = self.fill(buffer)?;
+        Ok(&buffer[..n])
+    }
+
+    // The pieces of SIZE bytes that the input is. The buffer has one byte more than the most that there may be; the words say what is
+    // wrong with more, and with input that is no whole number of pieces.
+    pub fn pieces<'b, const SIZE: usize>(
+        &mut self,
+        buffer: &'b mut [u8],
+        too_many: &'static str,
+        not_whole: &'static str,
+    ) -> Result<&'b [[u8; SIZE]], Failure<&'static str>>
+        requires { 0 < SIZE }
+        ensures { IfOk result (λ pieces. SIZE * length pieces.now < length buffer.old) }
+    {
+        let room = buffer.len();
+        let bytes = self.whole(buffer)?;
+        if bytes.len() == room {
+            return Err(Failure::Wrong(too_many));
+        }
+        let (pieces, rest) = bytes.as_chunks();
+        if !rest.is_empty() {
+            return Err(Failure::Wrong(not_whole));
+        }
+        Ok(pieces)
+    }
+}

@@ -1,9 +1,0 @@
--- `say_blocks`: each block once.
-use Rattle.std.proofs.Common.{◌-◌, ◌≤◌}
-use Rattle.rollcall.proofs.say_blocks.Given as goal
-
-abbrev pub invariant-loop-i : goal.invariant-loop-i
-invariant-loop-i l = l.i ≤ l.count
-
-abbrev pub decreases-loop-i : goal.decreases-loop-i
-decreases-loop-i l = l.count - l.i
