@@ -28,7 +28,7 @@ impl<C> From<Unread> for Failure<C> {
     }
 }
 
-// A program writes on standard output alone.
+// An error of the system that a program passes up is one of its standard output: those of reading are `Unread`.
 impl<C> From<Error> for Failure<C> {
     fn from(_error: Error) -> Failure<C> {
         Failure::Unwritten

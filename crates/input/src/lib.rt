@@ -42,9 +42,10 @@ pub trait Program {
 
     const EXAMPLE: &'static str;
 
-    // What is wrong with input that the program does not take: its words where there are some.
+    // What is wrong with input that the program does not take. One that takes every input makes none.
     type Wrong: Display + Drop;
 
+    // Prints what its input comes to.
     fn print<S: System, W: Write>(
         &self,
         input: &mut Stream<'_, S>,

@@ -16,6 +16,7 @@ enum Source {
     File { word: usize, file: File },
 }
 
+// The input, as far as it is read: what is open, and the system that has the words behind it.
 #[derive(Drop)]
 pub struct Stream<'a, S: System> {
     rt: &'a S,

@@ -39,33 +39,31 @@ value_of field value = option_or (cond (eqb field direction) (place_of value dir
 abbrev pub equals_in : List ℕ → Option ℕ
 equals_in word = position (λ byte. eqb byte 0x3D) word
 
--- What there is without a fault, and then what comes of it.
-infixl 10 ◌>>=◌
-abbrev pub ◌>>=◌ : {A B E : Type 0} → Result A E → (A → Result B E) → Result B E
-Ok value >>= next = next value
-Err fault >>= next = Err fault
+-- What there is, and then what comes of it; a fault stays the fault.
+abbrev pub and_then : {A B E : Type 0} → Result A E → (A → Result B E) → Result B E
+and_then (Ok value) next = next value
+and_then (Err fault) next = Err fault
 
 -- What a word says by itself: it has an =; what stands before the first one names a field; and what stands behind it is a number that
 -- the field has room for.
 unfoldable pub word_of : List ℕ → Result Word Fault
-word_of word = do
-  size ← ok_or (equals_in word) NoEquals
-  field ← ok_or (place_of (take size word) field_names) NoField
-  value ← ok_or (value_of field (drop (size + 1) word)) NoNumber
-  cond (ltb value (limit field)) (Ok (record { field = field; value = value })) (Err TooLarge)
+word_of word =
+    and_then (ok_or (equals_in word) NoEquals) (λ size.
+    and_then (ok_or (place_of (take size word) field_names) NoField) (λ field.
+    and_then (ok_or (value_of field (drop (size + 1) word)) NoNumber) (λ value.
+    cond (ltb value (limit field)) (Ok (record { field = field; value = value })) (Err TooLarge))))
 
 -- The values of the fields, None where none is given, with what a word more says. No field is given twice.
 unfoldable pub with_word : List (Option ℕ) → List ℕ → Result (List (Option ℕ)) Fault
-with_word values word = do
-  said ← word_of word
-  cond (is_some (get_or values said.field None)) (Err Twice) (Ok (set values said.field (Some said.value)))
+with_word values word =
+    and_then (word_of word) (λ said.
+    cond (is_some (get_or values said.field None)) (Err Twice) (Ok (set values said.field (Some said.value))))
 
 -- The same with each of several words, up to one that is wrong, which comes back with its fault.
 unfoldable pub with_words : List (Option ℕ) → List (List ℕ) → Result (List (Option ℕ)) (List ℕ × Fault)
 with_words values [] = Ok values
-with_words values (word ∷ words) = do
-  more ← result_map_both (λ more. more) (λ fault. (word, fault)) (with_word values word)
-  with_words more words
+with_words values (word ∷ words) =
+    and_then (result_map_both (λ more. more) (λ fault. (word, fault)) (with_word values word)) (λ more. with_words more words)
 
 -- What the words of a line come to. Before the first one no field is given.
 abbrev pub read_line : List ℕ → Result (List (Option ℕ)) (List ℕ × Fault)

@@ -176,7 +176,7 @@ fn value(values: &Values, field: usize) -> u32
     values[field].unwrap_or(0)
 }
 
-// The same of a field of 16 bits, as a remainder: the type of the values does not say that `read_line` takes no greater one,
+// The value of a field of 16 bits. It is a remainder, since the type of the values does not say that `read_line` takes no greater one.
 fn short(values: &Values, field: usize) -> u16
     requires { field < 15 }
     ensures { result ≡ Line·value values.now field % 0x10000 }
@@ -184,7 +184,7 @@ fn short(values: &Values, field: usize) -> u16
     (value(values, field) % 0x1_0000) as u16
 }
 
-// and of one of 8.
+// The value of a field of 8 bits, by a remainder for the same reason.
 fn byte(values: &Values, field: usize) -> u8
     requires { field < 15 }
     ensures { result ≡ Line·value values.now field % 0x100 }
