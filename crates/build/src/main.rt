@@ -3,6 +3,8 @@
 // number. What a line comes to is proved in `order_shown`; reading the lines, and writing what they come to, no contract can say.
 #![tactic(auto)]
 
+ghost use Rattle.build.specs.Begun.{begun};
+
 use arrayvec::ArrayVec;
 use input::{Failure, Program, Run, Stream, System};
 use std::fmt::Display;
@@ -59,13 +61,21 @@ impl Build {
             match piece.strip_suffix(b"\n") {
                 Some(end) => {
                     line.add(end);
-                    self.say(line, out)?;
-                    line.next();
+                    self.end_line(line, out)?;
                 }
                 None => line.add(piece),
             }
         }
         Ok(())
+    }
+
+    // Says what a line comes to, and begins the next, in which no byte of it is left.
+    fn end_line(&self, line: &mut Line, out: &mut impl Write) -> io::Result<()>
+        ensures { begun line.new }
+    {
+        let said = self.say(line, out);
+        line.next();
+        said
     }
 
     // Says what a line comes to.
@@ -100,7 +110,9 @@ struct Line {
 }
 
 impl Line {
-    fn first() -> Line {
+    fn first() -> Line
+        ensures { begun result }
+    {
         Line {
             number: 1,
             bytes: Some(ArrayVec::new()),
@@ -127,9 +139,14 @@ impl Line {
     }
 
     // Begins the next one. No input has so many lines that their number comes round.
-    fn next(&mut self) {
+    fn next(&mut self)
+        ensures { begun self.new }
+    {
         self.number = self.number.wrapping_add(1);
-        self.bytes = Some(ArrayVec::new());
+        match &mut self.bytes {
+            Some(bytes) => bytes.clear(),
+            None => self.bytes = Some(ArrayVec::new()),
+        }
     }
 }
 

@@ -3,7 +3,9 @@
 // blocks than a census takes are `refused 17`, a last block that is not whole is `refused 1`; then nothing else is printed.
 #![tactic(auto)]
 
-ghost use Rattle.std.specs.Prelude.{◌≤◌, ◌<◌, length, IfOk};
+ghost use Rattle.std.specs.Prelude.{◌≡◌, ◌≤◌, ◌<◌, length, IfOk};
+ghost use Rattle.intake.specs.Intake.{empty};
+ghost use Rattle.census.specs.Counted.{behind};
 
 use input::{Failure, Program, Run, Stream, System, Unread};
 use intake::Intake;
@@ -48,7 +50,9 @@ struct Counted {
 
 impl Counted {
     // Nothing is counted yet.
-    fn nothing() -> Counted {
+    fn nothing() -> Counted
+        ensures { result.intake ≡ empty }
+    {
         Counted {
             census: tally::empty(),
             intake: intake::empty(),
@@ -56,8 +60,11 @@ impl Counted {
         }
     }
 
-    // Counts a whole block, or gives the number of the refusal, which is C's. One that is damaged is left out.
-    fn feed(&mut self, block: &[u8; 512]) -> Result<(), u8> {
+    // Counts a whole block, or gives the number of the refusal, which is C's. One that is damaged is left out. The intake is then empty.
+    fn feed(&mut self, block: &[u8; 512]) -> Result<(), u8>
+        ensures { self.new.intake ≡ empty }
+    {
+        self.intake = intake::empty();
         let fed = tally::feed(self.census, block);
         self.census = fed.next;
         if fed.number == 18 {
@@ -73,11 +80,11 @@ impl Counted {
     // Takes of a run what the intake lacks, and counts the block where that makes it complete. Gives what is left of the run.
     fn step<'a>(&mut self, store: &mut [u8; 512], run: &'a [u8]) -> Result<&'a [u8], u8>
         requires { 0 < length run.now }
-        ensures { IfOk result (λ rest. length rest.now < length run.now) }
+        ensures rest { IfOk result (λ rest. length rest.now < length run.now) }
+        ensures intake { self.new.intake ≡ behind self.old.intake store.old run.now }
     {
         let took = intake::take(self.intake, store, run);
         if took.complete == 1 {
-            self.intake = intake::empty();
             self.feed(store)?;
         } else {
             self.intake = took.next;

@@ -3,6 +3,8 @@
 // how many bytes it used in all, and the name that the block's page 83h tells, or that the block is damaged.
 #![tactic(auto)]
 
+ghost use Rattle.std.specs.Prelude.{◌+◌, ◌≤◌, length, IfSome};
+
 use input::{Failure, Program, Run, Stream, System};
 use intake::Intake;
 use output::Text;
@@ -75,22 +77,23 @@ struct Fed {
 }
 
 // The bytes of the first run, and what stands behind it.
-fn first_run(runs: &[u8]) -> Option<(&[u8], &[u8])> {
+fn first_run(runs: &[u8]) -> Option<(&[u8], &[u8])>
+    ensures { IfSome result (λ run. length run.1.now + 2 ≤ length runs.now) }
+{
     let (size, rest) = runs.split_first_chunk::<2>()?;
     rest.split_at_checked(usize::from(u16::from_be_bytes(*size)))
 }
 
-// Takes all runs, up to one that is not whole.
+// Takes all runs, up to one that is not whole, each once. How long one is stands in it: so it is a `while` over what is left.
 fn take_runs(runs: &[u8], store: &mut [u8; 512]) -> Result<Fed, Wrong> {
     let mut fed = Fed {
         intake: intake::empty(),
         complete: None,
     };
     let mut rest = runs;
-    for run in 1..usize::MAX {
-        if rest.is_empty() {
-            break;
-        }
+    let mut run = 0;
+    while !rest.is_empty() {
+        run += 1;
         let Some((bytes, behind)) = first_run(rest) else {
             return Err(Wrong::InsideRun(run));
         };

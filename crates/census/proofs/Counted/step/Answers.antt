@@ -4,8 +4,8 @@ use native.Mathlib.Omega.{arith}
 use Rattle.intake.proofs.Step.{uses_some, still_lacks}
 use Rattle.census.proofs.Counted.step.Goals as goal
 
-pub invariant_of-self-else-took-eq1 : goal.invariant_of-self-else-took-eq1
-invariant_of-self-else-took-eq1 c = record {
+pub invariant_of-self : goal.invariant_of-self
+invariant_of-self c = record {
   lacks = still_lacks c.args.self.now.intake c.args.store.now c.args.run.now c.args.self.now.lacks (omega arith) c.requires _ _ c.take-took.ensures c.if-took-eq1.false;
 }
 
@@ -19,7 +19,7 @@ slice_bounds-result-start c =
     let u = uses_some c.args.self.now.intake c.args.store.now c.args.run.now c.args.self.now.lacks (omega arith) c.requires _ _ c.take-took.ensures in
     omega (arith, u, c.from.ensures)
 
-pub returns : goal.returns
-returns c =
+pub returns-clause-rest : goal.returns-clause-rest
+returns-clause-rest c =
     let u = uses_some c.args.self.now.intake c.args.store.now c.args.run.now c.args.self.now.lacks (omega arith) c.requires _ _ c.take-took.ensures in
     simp (length-take, length-drop) (omega (arith, u, c.from.ensures))

@@ -1,0 +1,2 @@
+-- The line that is on its way.
+pub mod Begun

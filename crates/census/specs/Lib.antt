@@ -1,0 +1,2 @@
+-- What the census program keeps between two runs.
+pub mod Counted
