@@ -1,11 +1,24 @@
 // Output: how the board's programs show a text that a drive or a person gave.
 #![tactic(auto)]
 
-ghost use Rattle.std.specs.Prelude.{◌≡◌, Some};
+ghost use Rattle.std.specs.Prelude.{◌≡◌, ◌<◌, false, Some};
 ghost use Rattle.std.specs.List.{flat_map};
+ghost use Rattle.std.specs.Fmt.{digit_glyph};
 ghost use Rattle.output.specs.Shown.{printable, shown};
 
+use arrayvec::ArrayString;
 use std::fmt;
+
+// The hexadecimal digit of a number.
+pub fn digit(number: u8) -> u8
+    requires { number < 16 }
+    ensures { result ≡ digit_glyph false number }
+{
+    if number < 10 {
+        return 48 + number;
+    }
+    87 + number
+}
 
 // Whether a byte is shown as it is: from the space to the tilde.
 fn printable(byte: u8) -> bool
@@ -18,18 +31,35 @@ fn printable(byte: u8) -> bool
 #[derive(Clone, Copy)]
 pub struct Shown(pub u8);
 
+impl Shown {
+    // The text that is shown for it. Making it cannot fail, as writing it can.
+    #[tactic(auto, unfolding(crate::specs::Shown::shown))]
+    pub fn text(self) -> ArrayString<4>
+        ensures { result.bytes ≡ shown self.0 }
+    {
+        let byte = self.0;
+        let mut text = ArrayString::new();
+        if byte == b'\\' {
+            text.push_str("\\\\");
+            return text;
+        }
+        if printable(byte) {
+            text.push(char::from(byte));
+            return text;
+        }
+        text.push_str("\\x");
+        text.push(char::from(digit(byte / 16)));
+        text.push(char::from(digit(byte % 16)));
+        text
+    }
+}
+
+// Writes that text, in one piece.
 impl fmt::Display for Shown {
     ghost output = { λ s. Some (shown s.0) };
 
     fn fmt<W: fmt::Write>(&self, f: &mut fmt::Formatter<W>) -> fmt::Result {
-        let byte = self.0;
-        if byte == b'\\' {
-            return write!(f, "\\\\");
-        }
-        if printable(byte) {
-            return write!(f, "{}", char::from(byte));
-        }
-        write!(f, "\\x{byte:02x}")
+        write!(f, "{}", self.text())
     }
 }
 
