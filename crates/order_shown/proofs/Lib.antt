@@ -1,1 +1,2 @@
 -- The laws of what is shown.
+mod Shows
