@@ -326,6 +326,21 @@ def functions(tree, path):
         yield name, signature, [found[1] for found in said if found]
 
 
+def methods(tree, path):
+    """The methods of the public traits of a source file, and those of traits that its public types have, as `functions` gives functions."""
+    text = tree.text(path)
+    crate = path.split("/")[1]
+    for block in re.finditer(r"^(?:pub trait (\w+)|impl(?:<.*?>)? [^\n{]*? for (\w+))[^{]*\{$(.*?)^\}$", text, re.M | re.S):
+        owner = block[1] or block[2]
+        if not block[1] and not re.search(r"^pub (?:struct|enum) %s\b" % owner, text, re.M):
+            continue
+        for start in re.finditer(r"^    fn (\w+)", block[3], re.M):
+            head = re.compile(r".*?(?:;|\{)$", re.M | re.S).match(block[3], start.start())[0]
+            signature, *clauses = re.split(r"\n *(?=(?:requires|ensures)\b)", head)
+            said = (re.fullmatch(r"ensures (?:\w+ )?\{\s*(.*?)\s*\}[;{\s]*", clause, re.S) for clause in clauses)
+            yield "%s::%s::%s" % (crate, owner, start[1]), signature, [found[1] for found in said if found]
+
+
 def parts_of(clause):
     """What a clause says one beside the other: `a × (b)`."""
     parts, depth = [""], 0
@@ -356,7 +371,8 @@ def settled_by(part, relations):
 
 def open_functions(tree, relations):
     for path in tree.files("crates/*/src/*.rt"):
-        for name, head, clauses in functions(tree, path):
+        of_traits = [] if path.endswith("/main.rt") else methods(tree, path)
+        for name, head, clauses in [*functions(tree, path), *of_traits]:
             owed = set(re.findall(r"(\w+): &(?:'\w+ )?mut ", head)) | ({"result"} if ") -> " in head else set())
             settled = [settled_by(part, relations) for clause in clauses for part in parts_of(clause)]
             if owed - set().union(*settled):
