@@ -3,6 +3,9 @@
 // which is not used, it says so; the roll is then that of the others.
 #![tactic(auto)]
 
+ghost use Rattle.std.specs.Prelude.{Some};
+ghost use Rattle.labels.specs.Label.{shown_field};
+
 use input::{Failure, Program, Run, Stream, System};
 use output::Shown;
 use std::io::Write;
@@ -44,6 +47,8 @@ impl Program for Labels {
 struct Field<'a>(&'a [u8]);
 
 impl fmt::Display for Field<'_> {
+    ghost output = { λ field. Some (shown_field field.0.now) };
+
     fn fmt<W: fmt::Write>(&self, f: &mut fmt::Formatter<W>) -> fmt::Result {
         let text = self.0;
         write!(f, "[")?;

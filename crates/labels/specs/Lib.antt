@@ -1,0 +1,2 @@
+-- What is printed of a block: its texts.
+pub mod Label
