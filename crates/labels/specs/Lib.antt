@@ -1,2 +1,2 @@
--- What is printed of a block: its texts.
+-- What is printed of a block, and which blocks are used.
 pub mod Label

@@ -3,8 +3,9 @@
 // which is not used, it says so; the roll is then that of the others.
 #![tactic(auto)]
 
-ghost use Rattle.std.specs.Prelude.{Some};
-ghost use Rattle.labels.specs.Label.{shown_field};
+ghost use Rattle.std.specs.Prelude.{◌≡◌, ◌≤◌, length, Some};
+ghost use Rattle.std.specs.List.{flat_map};
+ghost use Rattle.labels.specs.Label.{shown_field, is_used as Label·is_used, used};
 
 use input::{Failure, Program, Run, Stream, System};
 use output::Shown;
@@ -82,24 +83,31 @@ fn print_label(i: usize, block: &[u8; 512], row: u16, out: &mut impl Write) -> i
 }
 
 // Whether a block is used, so that it takes a row.
-fn is_used(block: &[u8; 512]) -> bool {
+fn is_used(block: &[u8; 512]) -> bool
+    ensures { result ≡ Label·is_used block.now }
+{
     !checksum::damaged(block)
 }
 
 // Puts the blocks that are used one behind the other, and gives their bytes.
-fn gather<'a>(blocks: &[[u8; 512]], room: &'a mut [[u8; 512]; 64]) -> &'a [u8] {
-    for (place, block) in room
-        .iter_mut()
-        .zip(blocks.iter().filter(|block| is_used(*block)))
-    {
-        *place = *block;
+fn gather<'a>(blocks: &[[u8; 512]], room: &'a mut [[u8; 512]; 64]) -> &'a [u8]
+    requires { length blocks.now ≤ 64 }
+    ensures { result.now ≡ flat_map (λ block. block) (used blocks.now) }
+{
+    let mut count = 0;
+    for block in blocks {
+        if is_used(block) {
+            room[count] = *block;
+            count += 1;
+        }
     }
-    let count = blocks.iter().filter(|block| is_used(*block)).count();
-    room[..count.min(64)].as_flattened()
+    room[..count].as_flattened()
 }
 
 // The row of each block that is used, in the roll of these alone.
-fn rows_of(blocks: &[[u8; 512]]) -> [Option<u16>; 64] {
+fn rows_of(blocks: &[[u8; 512]]) -> [Option<u16>; 64]
+    requires { length blocks.now ≤ 64 }
+{
     let mut room = [[0u8; 512]; 64];
     let mut given = [0u16; 64];
     roll::roll(gather(blocks, &mut room), &mut given);
@@ -114,7 +122,9 @@ fn rows_of(blocks: &[[u8; 512]]) -> [Option<u16>; 64] {
 }
 
 // A line for each block. One that has no row is damaged.
-fn print_labels(blocks: &[[u8; 512]], out: &mut impl Write) -> io::Result<()> {
+fn print_labels(blocks: &[[u8; 512]], out: &mut impl Write) -> io::Result<()>
+    requires { length blocks.now ≤ 64 }
+{
     for (i, (block, row)) in blocks.iter().zip(rows_of(blocks)).enumerate() {
         match row {
             Some(row) => print_label(i, block, row, out)?,
