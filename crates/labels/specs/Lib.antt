@@ -1,2 +1,2 @@
--- What is printed of a block, and which blocks are used.
+-- What is printed of a block: its texts, and its drive's row.
 pub mod Label

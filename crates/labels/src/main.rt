@@ -3,9 +3,9 @@
 // which is not used, it says so; the roll is then that of the others.
 #![tactic(auto)]
 
-ghost use Rattle.std.specs.Prelude.{◌≡◌, ◌≤◌, length, Some};
+ghost use Rattle.std.specs.Prelude.{◌≡◌, ◌≤◌, length, EachIndex, slice_index_or, None, Some};
 ghost use Rattle.std.specs.List.{flat_map};
-ghost use Rattle.labels.specs.Label.{shown_field, is_used as Label·is_used, used};
+ghost use Rattle.labels.specs.Label.{shown_field, is_used as Label·is_used, used, rows_given, row_beside};
 
 use input::{Failure, Program, Run, Stream, System};
 use output::Shown;
@@ -104,21 +104,31 @@ fn gather<'a>(blocks: &[[u8; 512]], room: &'a mut [[u8; 512]; 64]) -> &'a [u8]
     room[..count].as_flattened()
 }
 
+// Puts the rows that were given beside the blocks: a block that is used takes the next of them, a damaged one takes none.
+fn beside(blocks: &[[u8; 512]], given: &[u16; 64]) -> [Option<u16>; 64]
+    requires { length blocks.now ≤ 64 }
+    ensures { EachIndex blocks.now (λ i. slice_index_or result i None ≡ row_beside given.now blocks.now i) }
+{
+    let mut rows = [None; 64];
+    let mut next = 0;
+    for (i, block) in blocks.iter().enumerate() {
+        if is_used(block) {
+            rows[i] = Some(given[next]);
+            next += 1;
+        }
+    }
+    rows
+}
+
 // The row of each block that is used, in the roll of these alone.
 fn rows_of(blocks: &[[u8; 512]]) -> [Option<u16>; 64]
     requires { length blocks.now ≤ 64 }
+    ensures { EachIndex blocks.now (λ i. slice_index_or result i None ≡ row_beside (rows_given blocks.now) blocks.now i) }
 {
     let mut room = [[0u8; 512]; 64];
     let mut given = [0u16; 64];
     roll::roll(gather(blocks, &mut room), &mut given);
-    let mut given = given.into_iter();
-    let mut rows = [None; 64];
-    for (row, block) in rows.iter_mut().zip(blocks) {
-        if is_used(block) {
-            *row = given.next();
-        }
-    }
-    rows
+    beside(blocks, &given)
 }
 
 // A line for each block. One that has no row is damaged.

@@ -1,0 +1,2 @@
+-- The rows beside the blocks.
+pub mod Rows
