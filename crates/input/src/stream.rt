@@ -9,11 +9,12 @@ use std::fs::File;
 use std::io;
 use std::io::{Error, ErrorKind, Read};
 
-// What is read: standard input, or the file that a word names.
+// What is read: standard input, the file that a word names, or nothing, where no file is open.
 #[derive(Drop)]
 enum Source {
     Standard,
     File { word: usize, file: File },
+    Ended,
 }
 
 // The input, as far as it is read: what is open, and the system that has the words behind it.
@@ -61,7 +62,7 @@ impl<'a, S: System> TryFrom<&'a S> for Stream<'a, S> {
 }
 
 impl<'a, S: System> Stream<'a, S> {
-    // Reads once from what is open.
+    // Reads once from what is open. Where nothing is, nothing comes.
     fn read_once(&mut self, buffer: &mut [u8]) -> Result<usize, Unread>
         ensures { IfOk result (λ n. n ≤ length buffer.new) }
     {
@@ -71,14 +72,17 @@ impl<'a, S: System> Stream<'a, S> {
                 Ok(n) => Ok(n),
                 Err(error) => Err(Unread::File { word: *word, error }),
             },
+            Source::Ended => Ok(0),
         }
     }
 
-    // Opens the file behind the one that is open, if there is one.
+    // Closes the file that is open, and then opens the one behind it, if there is one: two are never open at once, and none is behind the
+    // last.
     fn go_on(&mut self) -> Result<bool, Unread> {
         let Source::File { word, .. } = self.source else {
             return Ok(false);
         };
+        self.source = Source::Ended;
         let Some(next) = word.checked_add(1) else {
             return Ok(false);
         };
