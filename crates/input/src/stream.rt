@@ -1,6 +1,7 @@
 // Stream: the bytes that a program is given: those of the files that its words name, one file behind the other, or of standard input
 // where there is no word. Some of them at a time is `read`, for input of any size; all at once is `whole`.
-ghost use Rattle.std.specs.Prelude.{◌≡◌, ◌<◌, ◌≤◌, ◌*◌, length, take, IfOk};
+ghost use Rattle.std.specs.Prelude.{◌≡◌, ◌≢◌, ◌<◌, ◌≤◌, ◌-◌, ◌^◌, ◌*◌, true, length, take, IfOk};
+ghost use Rattle.input.specs.Stream.{words_left};
 
 use crate::System;
 use crate::failure::{Failure, Unread};
@@ -38,7 +39,9 @@ fn open_path(rt: &impl System, path: &[u8]) -> io::Result<File> {
 }
 
 // Opens the file that a word names. A word that is not there names no file.
-fn open_word(rt: &impl System, word: usize) -> Result<Source, Unread> {
+fn open_word(rt: &impl System, word: usize) -> Result<Source, Unread>
+    ensures { IfOk result (λ source. words_left source ≡ 2 ^ 64 - word) }
+{
     let mut path = [0u8; 4096];
     let n = rt.arg(word, &mut path).unwrap_or(0);
     match open_path(rt, &path[..n]) {
@@ -64,7 +67,8 @@ impl<'a, S: System> TryFrom<&'a S> for Stream<'a, S> {
 impl<'a, S: System> Stream<'a, S> {
     // Reads once from what is open. Where nothing is, nothing comes.
     fn read_once(&mut self, buffer: &mut [u8]) -> Result<usize, Unread>
-        ensures { IfOk result (λ n. n ≤ length buffer.new) }
+        ensures counts { IfOk result (λ n. n ≤ length buffer.new) }
+        ensures stays { words_left self.new.source ≡ words_left self.old.source }
     {
         match &mut self.source {
             Source::Standard => self.rt.reader().read(buffer).map_err(|_| Unread::Standard),
@@ -78,7 +82,10 @@ impl<'a, S: System> Stream<'a, S> {
 
     // Closes the file that is open, and then opens the one behind it, if there is one: two are never open at once, and none is behind the
     // last.
-    fn go_on(&mut self) -> Result<bool, Unread> {
+    fn go_on(&mut self) -> Result<bool, Unread>
+        ensures fewer { IfOk result (λ more. more ≡ true → words_left self.new.source < words_left self.old.source) }
+        ensures closed { result ≢ Ok true → words_left self.new.source ≡ 0 }
+    {
         let Source::File { word, .. } = self.source else {
             return Ok(false);
         };
@@ -94,17 +101,17 @@ impl<'a, S: System> Stream<'a, S> {
     }
 
     // Reads some bytes into the front of a buffer, and gives how many: none at the end of the input. An empty buffer takes none, but each
-    // file is opened and read, so that one that cannot be is told.
+    // file is opened and read, so that one that cannot be is told. How many files there are no count says before: so it is a `loop`, in
+    // which fewer words are left at each turn.
     pub fn read(&mut self, buffer: &mut [u8]) -> Result<usize, Unread>
         ensures { IfOk result (λ n. n ≤ length buffer.new) }
     {
-        for _ in 0..usize::MAX {
+        loop {
             let n = self.read_once(buffer)?;
             if n > 0 || !self.go_on()? {
                 return Ok(n);
             }
         }
-        Ok(0)
     }
 
     // Reads some bytes behind those that are there, and gives how many there are then.

@@ -1,0 +1,2 @@
+-- What input is read.
+pub mod Stream
