@@ -114,28 +114,35 @@ impl<'a, S: System> Stream<'a, S> {
         }
     }
 
-    // Reads some bytes behind those that are there, and gives how many there are then.
-    fn read_behind(&mut self, buffer: &mut [u8], start: usize) -> Result<usize, Unread>
+    // Reads what is open to its end, behind the bytes that are there, or until the buffer is full. It is read once even into a full buffer,
+    // which takes nothing: a file that cannot be read is told there too.
+    fn read_to_end(&mut self, buffer: &mut [u8], start: usize) -> Result<usize, Unread>
         requires { start ≤ length buffer.old }
         ensures counts { IfOk result (λ n. (start ≤ n) × (n ≤ length buffer.new)) }
         ensures keeps { take start buffer.new ≡ take start buffer.old }
         ensures size { length buffer.new ≡ length buffer.old }
+        ensures stays { words_left self.new.source ≡ words_left self.old.source }
     {
-        let more = self.read(&mut buffer[start..])?;
-        Ok(start + more)
+        let mut done = start;
+        loop {
+            let more = self.read_once(&mut buffer[done..])?;
+            if more == 0 {
+                return Ok(done);
+            }
+            done += more;
+        }
     }
 
-    // Fills a buffer, as far as the input goes. It ends where a read brings nothing, which no count says before: so it is a `loop`.
+    // Fills a buffer, as far as the input goes, from one file after the other.
     fn fill(&mut self, buffer: &mut [u8]) -> Result<usize, Unread>
         ensures { IfOk result (λ n. n ≤ length buffer.new) }
     {
-        let mut done = 0;
+        let mut filled = 0;
         loop {
-            let now = self.read_behind(buffer, done)?;
-            if now == done {
-                return Ok(done);
+            filled = self.read_to_end(buffer, filled)?;
+            if !self.go_on()? {
+                return Ok(filled);
             }
-            done = now;
         }
     }
 

@@ -1,9 +1,10 @@
--- `fill`: what came so far fits the buffer, which keeps its length; each turn brings some more.
-use Rattle.std.proofs.Common.{◌-◌, ◌≤◌, ◌≡◌, length}
+-- `fill`: what came so far fits the buffer, which keeps its length; each word once.
+use Rattle.std.proofs.Common.{◌≤◌, ◌≡◌, length}
+use Rattle.input.specs.Stream.{words_left}
 use Rattle.input.proofs.stream.Stream.fill.Given as goal
 
-abbrev pub invariant-loop-now : goal.invariant-loop-now
-invariant-loop-now g l = (l.done ≤ length l.buffer) × (length l.buffer ≡ length l.fn.buffer)
+abbrev pub invariant-loop-filled : goal.invariant-loop-filled
+invariant-loop-filled g l = (l.filled ≤ length l.buffer) × (length l.buffer ≡ length l.fn.buffer)
 
-abbrev pub decreases-loop-now : goal.decreases-loop-now
-decreases-loop-now g l = length l.buffer - l.done
+abbrev pub decreases-loop-filled : goal.decreases-loop-filled
+decreases-loop-filled g l = words_left l.self.source
