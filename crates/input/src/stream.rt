@@ -12,8 +12,8 @@ use std::io::{Error, ErrorKind, Read};
 
 // What is read: standard input, the file that a word names, or nothing, where no file is open.
 #[derive(Drop)]
-enum Source {
-    Standard,
+enum Source<R> {
+    Standard(R),
     File { word: usize, file: File },
     Ended,
 }
@@ -22,7 +22,7 @@ enum Source {
 #[derive(Drop)]
 pub struct Stream<'a, S: System> {
     rt: &'a S,
-    source: Source,
+    source: Source<S::Reader>,
 }
 
 // Whether there is a word i, of whatever size.
@@ -39,7 +39,7 @@ fn open_path(rt: &impl System, path: &[u8]) -> io::Result<File> {
 }
 
 // Opens the file that a word names. A word that is not there names no file.
-fn open_word(rt: &impl System, word: usize) -> Result<Source, Unread>
+fn open_word<S: System>(rt: &S, word: usize) -> Result<Source<S::Reader>, Unread>
     ensures { IfOk result (λ source. words_left source ≡ 2 ^ 64 - word) }
 {
     let mut path = [0u8; 4096];
@@ -58,7 +58,7 @@ impl<'a, S: System> TryFrom<&'a S> for Stream<'a, S> {
         let source = if has_word(rt, 1) {
             open_word(rt, 1)?
         } else {
-            Source::Standard
+            Source::Standard(rt.reader())
         };
         Ok(Stream { rt, source })
     }
@@ -71,7 +71,7 @@ impl<'a, S: System> Stream<'a, S> {
         ensures stays { words_left self.new.source ≡ words_left self.old.source }
     {
         match &mut self.source {
-            Source::Standard => self.rt.reader().read(buffer).map_err(|_| Unread::Standard),
+            Source::Standard(reader) => reader.read(buffer).map_err(|_| Unread::Standard),
             Source::File { word, file } => match file.read(buffer) {
                 Ok(n) => Ok(n),
                 Err(error) => Err(Unread::File { word: *word, error }),
