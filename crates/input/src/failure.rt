@@ -23,6 +23,11 @@ pub enum Failure<C> {
 }
 
 impl<C> From<Unread> for Failure<C> {
+    ghost use Rattle.input.specs.declared.failure.Failure.TheVariants.{Unread as unread};
+    ghost use Rattle.std.specs.Prelude.{◌≡◌};
+
+    ghost from_gives = { λ cause failure. failure ≡ unread cause };
+
     fn from(unread: Unread) -> Failure<C> {
         Failure::Unread(unread)
     }
@@ -30,6 +35,11 @@ impl<C> From<Unread> for Failure<C> {
 
 // An error of the system that a program passes up is one of its standard output: those of reading are `Unread`.
 impl<C> From<Error> for Failure<C> {
+    ghost use Rattle.input.specs.declared.failure.Failure.TheVariants.{Unwritten};
+    ghost use Rattle.std.specs.Prelude.{◌≡◌};
+
+    ghost from_gives = { λ _ failure. failure ≡ Unwritten };
+
     fn from(_error: Error) -> Failure<C> {
         Failure::Unwritten
     }
