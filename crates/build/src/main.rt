@@ -78,7 +78,7 @@ impl Build {
         said
     }
 
-    // Says what a line comes to.
+    // Says what a line comes to. An answer is handed on at once, in one write: answers and complaints come in the order of the lines.
     fn say(&self, line: &Line, out: &mut impl Write) -> io::Result<()> {
         let number = line.number;
         let Some(bytes) = &line.bytes else {
@@ -86,7 +86,10 @@ impl Build {
             return Ok(());
         };
         match order_shown::answer_to(bytes.as_slice()) {
-            Ok(Some(answer)) => write!(out, "{answer}"),
+            Ok(Some(answer)) => {
+                write!(out, "{answer}")?;
+                out.flush()
+            }
             Ok(None) => Ok(()),
             Err(wrong) => {
                 self.complain(number, wrong);

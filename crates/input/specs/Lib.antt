@@ -1,2 +1,3 @@
--- What input is read.
+-- What input is read, and what is printed.
 pub mod Stream
+pub mod Buffered

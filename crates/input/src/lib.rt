@@ -2,10 +2,15 @@
 // that a program prints from, which is in `stream`. What one word asks for is in `program_words`.
 #![tactic(auto)]
 
+mod buffered;
 pub mod failure;
 pub mod stream;
 
+ghost use Rattle.std.specs.Prelude.{◌≡◌, ◌≢◌, []};
+ghost use Rattle.input.specs.Buffered.{waiting};
+
 use arrayvec::ArrayString;
+use buffered::Buffered;
 pub use failure::{Failure, Unread};
 use program_words::Wanted;
 use std::env::FillError;
@@ -69,15 +74,41 @@ impl<P: Program> Run for P {
 }
 
 fn follow<P: Program>(rt: &impl System, program: &P) -> Result<(), Failure<P::Wrong>> {
-    let mut out = io::writer(rt);
+    let mut out = Buffered::new(io::writer(rt));
+    let printed = print(rt, program, &mut out);
+    finish(&mut out, printed)
+}
+
+// Prints what the words ask for.
+fn print<P: Program>(
+    rt: &impl System,
+    program: &P,
+    out: &mut impl Write,
+) -> Result<(), Failure<P::Wrong>> {
     match wanted(rt)? {
         Wanted::Read => {
             let mut input = Stream::try_from(rt)?;
-            program.print(&mut input, &mut out)
+            program.print(&mut input, out)
         }
-        Wanted::Help => Ok(print_help::<P>(&mut out)?),
-        Wanted::Version => Ok(print_version::<P>(&mut out)?),
+        Wanted::Help => Ok(print_help::<P>(out)?),
+        Wanted::Version => Ok(print_version::<P>(out)?),
     }
+}
+
+// Hands on what is printed and still waits, also where the program failed behind it: that comes before its complaint. Where writing is
+// what failed, it is not tried again.
+fn finish<W: Write, C: Drop>(
+    out: &mut Buffered<W>,
+    printed: Result<(), Failure<C>>,
+) -> Result<(), Failure<C>>
+    ensures handed { result ≢ Err Failure.Unwritten → waiting out.new ≡ [] }
+    ensures same { result ≢ Err Failure.Unwritten → result ≡ printed }
+{
+    if let Err(Failure::Unwritten) = &printed {
+        return printed;
+    }
+    out.flush()?;
+    printed
 }
 
 // What the words ask for: the first that names no file decides.

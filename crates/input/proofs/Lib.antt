@@ -1,0 +1,2 @@
+-- For the buffer of what is printed.
+mod Known
