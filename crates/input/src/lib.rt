@@ -23,6 +23,9 @@ pub use stream::Stream;
 
 const VERSION: &'static str = "5.0.0";
 
+// What the usage says of the words behind a program's name.
+const WORDS: &'static str = " [FILE ..] | --help | --version\n";
+
 // What each help says of where the input comes from.
 const WHERE: &'static str = "\
     It is the files, one behind the other, or standard input where no file is named.";
@@ -67,7 +70,6 @@ pub trait Run {
 impl<P: Program> Run for P {
     fn run(&self, rt: &impl System) {
         if let Err(failure) = follow(rt, self) {
-            // Where nothing can be said on standard error either, there is nobody to tell.
             let _ = complain(rt, P::NAME, failure);
         }
     }
@@ -135,7 +137,7 @@ fn print_version<P: Program>(out: &mut impl Write) -> io::Result<()> {
 }
 
 fn print_usage(out: &mut impl Write, name: &str) -> io::Result<()> {
-    writeln!(out, "usage: {name} [FILE ..] | --help | --version")
+    write!(out, "usage: {name}{WORDS}")
 }
 
 fn print_help<P: Program>(out: &mut impl Write) -> io::Result<()> {
@@ -145,22 +147,40 @@ fn print_help<P: Program>(out: &mut impl Write) -> io::Result<()> {
     writeln!(out, "Example: ./run {} {}", P::NAME, P::EXAMPLE)
 }
 
+// Standard error, for a complaint. A piece that cannot be said there is passed over, and the next is tried: there is nobody to tell.
+#[derive(Drop)]
+struct Complaints {
+    to: Stderr,
+}
+
+impl Write for Complaints {
+    fn write(&mut self, bytes: &[u8]) -> io::Result<usize> {
+        let _ = self.to.write_all(bytes);
+        Ok(bytes.len())
+    }
+
+    fn flush(&mut self) -> io::Result<()> {
+        Ok(())
+    }
+}
+
 // Says on standard error what went wrong, behind the program's name.
 fn complain<C: Display + Drop>(
     rt: &impl System,
     name: &str,
     failure: Failure<C>,
 ) -> io::Result<()> {
-    let mut err = rt.complaints();
+    let mut err = Complaints {
+        to: rt.complaints(),
+    };
     write!(err, "{name}: ")?;
     match failure {
-        Failure::LongWord(i) => writeln!(err, "more than 4096 bytes in word {i}"),
+        Failure::LongWord(i) => write!(err, "more than 4096 bytes in word {i}\n"),
         Failure::NoOption(i) => {
             write_word(rt, i, &mut err)?;
-            writeln!(err, " is no option")?;
-            print_usage(&mut err, name)
+            write!(err, " is no option\nusage: {name}{WORDS}")
         }
-        Failure::Unread(Unread::Standard) => writeln!(err, "standard input could not be read"),
+        Failure::Unread(Unread::Standard) => write!(err, "standard input could not be read\n"),
         Failure::Unread(Unread::File { word, error }) => {
             write_word(rt, word, &mut err)?;
             write!(err, ": ")?;
@@ -172,7 +192,7 @@ fn complain<C: Display + Drop>(
 }
 
 // A word as it stands, whatever its bytes are.
-fn write_word(rt: &impl System, i: usize, err: &mut Stderr) -> io::Result<()> {
+fn write_word(rt: &impl System, i: usize, err: &mut Complaints) -> io::Result<()> {
     let mut word = [0u8; 4096];
     match rt.arg(i, &mut word) {
         Ok(n) => err.write_all(&word[..n]),
@@ -181,7 +201,7 @@ fn write_word(rt: &impl System, i: usize, err: &mut Stderr) -> io::Result<()> {
 }
 
 // The system's words for an error, without its number, which stands behind them.
-fn write_reason(error: Error, err: &mut Stderr) -> io::Result<()> {
+fn write_reason(error: Error, err: &mut Complaints) -> io::Result<()> {
     let mut text = ArrayString::<512>::new();
     let _ = write!(text, "{error}");
     let text = text.as_str();
