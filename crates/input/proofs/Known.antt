@@ -8,6 +8,12 @@ Keeps-trans (Some x) None c p q = absurd p
 Keeps-trans (Some x) (Some y) None p q = absurd q
 Keeps-trans (Some x) (Some y) (Some z) p q = q ∙ p
 
+pub Appends-trans : (a b c : Option (List ℕ)) (bs cs : List ℕ) → Appends a b bs → Appends b c cs → Appends a c (bs ++ cs)
+Appends-trans None b c bs cs p q = tt
+Appends-trans (Some x) None c bs cs p q = absurd p
+Appends-trans (Some x) (Some y) None bs cs p q = absurd q
+Appends-trans (Some x) (Some y) (Some z) bs cs p q = q ∙ ap (λ l. l ++ cs) p ∙ append_assoc x bs cs
+
 -- the writer behind takes the front of what waits
 pub append_known-moved : (a b : Option (List ℕ)) (front rest all : List ℕ) → Appends a b front → all ≡ front ++ rest → Keeps (append_known a all) (append_known b rest)
 append_known-moved None b front rest all p e = tt

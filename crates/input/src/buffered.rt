@@ -2,7 +2,7 @@
 // printed in pieces goes out in one write. Its room lies in the value itself, so that it takes no memory from a heap.
 ghost use Rattle.std.specs.Prelude.{◌≡◌, ◌+◌, ◌<◌, ◌≤◌, [], ◌++◌, length, IfOk, OnOk};
 ghost use Rattle.std.specs.Io.{WritesAtMost};
-ghost use Rattle.std.specs.Io.KnownBytes.{Keeps, WriteAppends};
+ghost use Rattle.std.specs.Io.KnownBytes.{Keeps, Appends, WriteAppends};
 ghost use Rattle.arrayvec.specs.ArrayVec.{array_vec_len};
 
 use arrayvec::ArrayVec;
@@ -11,7 +11,7 @@ use std::io::{Error, ErrorKind, Write};
 
 // What is gathered, and how much of it the writer behind has taken: some, and not all, only behind a write that failed.
 #[derive(Drop)]
-pub struct Buffered<W> {
+pub(crate) struct Buffered<W> {
     to: W,
     bytes: ArrayVec<u8, 4096>,
     handed: usize,
@@ -50,7 +50,7 @@ impl<W: Write> Buffered<W> {
     ghost use Rattle.input.specs.Buffered.{waiting, buffered_contents};
 
     // Nothing waits yet.
-    pub fn new(to: W) -> Buffered<W>
+    pub(crate) fn new(to: W) -> Buffered<W>
         ensures contents { Keeps (W.contents to) (buffered_contents W.contents result) }
         ensures empty { waiting result ≡ [] }
     {
@@ -75,6 +75,19 @@ impl<W: Write> Buffered<W> {
         }
         self.handed = 0;
         self.bytes.clear();
+        Ok(())
+    }
+
+    // Takes bytes in as many parts as it needs.
+    #[cold]
+    #[inline(never)]
+    fn write_in_parts(&mut self, bytes: &[u8]) -> io::Result<()>
+        ensures { OnOk result (Appends (buffered_contents W.contents self.old) (buffered_contents W.contents self.new) bytes.now) }
+    {
+        let mut done = 0;
+        while done < bytes.len() {
+            done += self.write(&bytes[done..])?;
+        }
         Ok(())
     }
 }
@@ -103,5 +116,13 @@ impl<W: Write> Write for Buffered<W> {
     {
         self.hand_on()?;
         self.to.flush()
+    }
+
+    // A piece that fits, as nearly all do, is gathered at once.
+    fn write_all(&mut self, bytes: &[u8]) -> io::Result<()> {
+        match self.bytes.try_extend_from_slice(bytes) {
+            Ok(()) => Ok(()),
+            Err(_) => self.write_in_parts(bytes),
+        }
     }
 }

@@ -175,12 +175,12 @@ fn complain<C: Display + Drop>(
     };
     write!(err, "{name}: ")?;
     match failure {
-        Failure::LongWord(i) => write!(err, "more than 4096 bytes in word {i}\n"),
+        Failure::LongWord(i) => writeln!(err, "more than 4096 bytes in word {i}"),
         Failure::NoOption(i) => {
             write_word(rt, i, &mut err)?;
             write!(err, " is no option\nusage: {name}{WORDS}")
         }
-        Failure::Unread(Unread::Standard) => write!(err, "standard input could not be read\n"),
+        Failure::Unread(Unread::Standard) => writeln!(err, "standard input could not be read"),
         Failure::Unread(Unread::File { word, error }) => {
             write_word(rt, word, &mut err)?;
             write!(err, ": ")?;
