@@ -6,7 +6,7 @@
 ghost use Rattle.build.specs.Begun.{begun};
 
 use arrayvec::ArrayVec;
-use input::{Failure, Program, Run, Stream, System};
+use input::{Complaints, Failure, Program, Run, Stream, System};
 use std::fmt::Display;
 use std::io;
 use std::io::{Stderr, Write};
@@ -98,10 +98,10 @@ impl Build {
         }
     }
 
-    // Tells of a line on standard error. Where nothing can be said there, there is nobody to tell.
+    // Tells of a line on standard error.
     fn complain(&self, number: u64, what: impl Display + Drop) {
-        let mut err = &self.complaints;
-        let _ = writeln!(err, "build: line {number}: {what}");
+        let mut err = Complaints::from(self.complaints);
+        let _ = write!(err, "build: line {number}: {what}\n");
     }
 }
 

@@ -149,8 +149,14 @@ fn print_help<P: Program>(out: &mut impl Write) -> io::Result<()> {
 
 // Standard error, for a complaint. A piece that cannot be said there is passed over, and the next is tried: there is nobody to tell.
 #[derive(Drop)]
-struct Complaints {
+pub struct Complaints {
     to: Stderr,
+}
+
+impl From<Stderr> for Complaints {
+    fn from(to: Stderr) -> Complaints {
+        Complaints { to }
+    }
 }
 
 impl Write for Complaints {
@@ -170,9 +176,7 @@ fn complain<C: Display + Drop>(
     name: &str,
     failure: Failure<C>,
 ) -> io::Result<()> {
-    let mut err = Complaints {
-        to: rt.complaints(),
-    };
+    let mut err = Complaints::from(rt.complaints());
     write!(err, "{name}: ")?;
     match failure {
         Failure::LongWord(i) => writeln!(err, "more than 4096 bytes in word {i}"),
