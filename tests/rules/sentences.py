@@ -327,7 +327,8 @@ def functions(tree, path):
 
 
 def methods(tree, path):
-    """The methods of the public traits of a source file, and those of traits that its public types have, as `functions` gives functions."""
+    """The methods of the public traits of a source file, and those of traits that its public types have, as `functions` gives functions. A
+    law of the trait that the type fills in, as `from_gives`, is a clause too."""
     text = tree.text(path)
     crate = path.split("/")[1]
     for block in re.finditer(r"^(?:pub trait (\w+)|impl(?:<.*?>)? [^\n{]*? for (\w+))[^{]*\{$(.*?)^\}$", text, re.M | re.S):
@@ -338,7 +339,9 @@ def methods(tree, path):
             head = re.compile(r".*?(?:;|\{)$", re.M | re.S).match(block[3], start.start())[0]
             signature, *clauses = re.split(r"\n *(?=(?:requires|ensures)\b)", head)
             said = (re.fullmatch(r"ensures (?:\w+ )?\{\s*(.*?)\s*\}[;{\s]*", clause, re.S) for clause in clauses)
-            yield "%s::%s::%s" % (crate, owner, start[1]), signature, [found[1] for found in said if found]
+            law = re.findall(r"ghost %s_gives = \{ λ \w+ (\w+)\. \1( ≡ .*) \};" % start[1], block[3])
+            yield ("%s::%s::%s" % (crate, owner, start[1]), signature,
+                   [found[1] for found in said if found] + ["result" + equation for _, equation in law])
 
 
 def parts_of(clause):
@@ -360,7 +363,7 @@ def settled_by(part, relations):
     left, equation, _ = part.partition(" ≡ ")
     head = re.split(r"[ ·]", left if equation else part)
     lent = re.findall(r"\b(\w+)\.new\b", left)
-    if equation and (left in ("result", "result.now", "result.0") or head[0] in relations):
+    if equation and (left in ("result", "result.now", "result.0", "result.bytes") or head[0] in relations):
         return {"result"}
     if equation and re.fullmatch(r"\w+\.new(?:\.now)?", left):
         return set(lent)

@@ -64,6 +64,8 @@ WRONG = [Wrong(*row) for row in (
      "is at 176"),
     (WORDS, "crates/identify/specs/Sector.antt", "word block 106", "word block 107", "word 107 is read"),
     (CONTRACTS, STATEMENTS, "| `input::stream::read` |", "| `input::stream::fill` |", "input::stream::read leaves something open"),
+    (CONTRACTS, STATEMENTS, "`output::Text::fmt`, ", "", "output::Text::fmt leaves something open"),
+    (CONTRACTS, "crates/input/src/failure.rt", "failure ≡ Unwritten };", "⊤ };", "input::Failure::from leaves something open"),
     (CONTRACTS, STATEMENTS, "- `Wrote` (`room/specs/Room`)", "- `Wrote`", "the relations are not told"),
     (CONTRACTS, "crates/packet/src/lib.rt", "{ result ≡ length (page00 reply.now) }", "{ result ≤ length (page00 reply.now) }",
      "packet::size leaves something open"),
