@@ -3,6 +3,7 @@ ghost use Rattle.std.specs.Prelude.{◌≡◌, ◌≤◌};
 ghost use Rattle.order_words.specs.Number.{digit_of, in_base, number_of};
 
 // What a byte stands for as a digit of a base.
+#[tactic(auto, using(crate::proofs::Numbers::digit_is))]
 fn digit(base: u32, byte: u8) -> Option<u32>
     requires { (2 ≤ base) × (base ≤ 16) }
     ensures { result ≡ digit_of base byte }
