@@ -10,28 +10,28 @@ use passthrough_order::Order;
 use std::fmt;
 
 // The fields of an order, as C calls them.
-const FIELDS: [&str; 15] = [
-    "length",
-    "auxiliary",
-    "features",
-    "count",
-    "lba_low",
-    "lba_mid",
-    "lba_high",
-    "quiet_seconds",
-    "sectors_per_block",
-    "device",
-    "command",
-    "protocol",
-    "ck_cond",
-    "extend",
-    "direction",
+const FIELDS: [&[u8]; 15] = [
+    b"length",
+    b"auxiliary",
+    b"features",
+    b"count",
+    b"lba_low",
+    b"lba_mid",
+    b"lba_high",
+    b"quiet_seconds",
+    b"sectors_per_block",
+    b"device",
+    b"command",
+    b"protocol",
+    b"ck_cond",
+    b"extend",
+    b"direction",
 ];
 
 const DIRECTION: usize = 14;
 
 // The names of the directions 0, 1 and 2.
-const DIRECTIONS: [&str; 3] = ["none", "from", "to"];
+const DIRECTIONS: [&[u8]; 3] = [b"none", b"from", b"to"];
 
 // The value of each field that a line gives.
 pub type Values = [Option<u32>; 15];

@@ -10,8 +10,8 @@ pub fn is_space(byte: &u8) -> bool
 }
 
 // The place of a word among those of a list, the first being 0.
-pub fn place_of(word: &[u8], list: &[&str]) -> Option<usize>
+pub fn place_of(word: &[u8], list: &[&[u8]]) -> Option<usize>
     ensures { result ≡ place_of word.now (map (λ other. other.now) list.now) }
 {
-    list.iter().position(|other| word == other.as_bytes())
+    list.iter().position(|other| word == *other)
 }
