@@ -6,7 +6,7 @@ use Rattle.std.specs.List.{flat_map}
 use Rattle.std.specs.Str.{bytes_eq}
 use Rattle.passthrough_order.specs.declared.Order.{Order}
 use Rattle.output.specs.Shown.{shown}
-use Rattle.order_words.specs.Words.{words, place_of}
+use Rattle.order_words.specs.Words.{parts, some_byte, place_of}
 use Rattle.order_words.specs.Number.{number_of}
 use Rattle.order_lines.specs.declared.Fault.{Fault}
 use Rattle.order_lines.specs.declared.Fault.TheVariants.{NoEquals, NoField, NoNumber, TooLarge, Twice}
@@ -59,15 +59,27 @@ with_word values word =
     and_then (word_of word) (λ said.
     cond (is_some (get_or values said.field None)) (Err Twice) (Ok (set values said.field (Some said.value))))
 
--- The same with each of several words, up to one that is wrong, which comes back with its fault.
+-- The same with a part of a line: a word, or nothing. One that is wrong comes back with the place where the part starts, and its fault.
+abbrev pub with_part : List (Option ℕ) → ℕ → List ℕ → Result (List (Option ℕ)) (ℕ × (List ℕ × Fault))
+with_part values start part =
+    cond (some_byte part) (result_map_both (λ more. more) (λ fault. (start, (part, fault))) (with_word values part)) (Ok values)
+
+-- The same with each of several parts, between which one byte stands, up to a word that is wrong.
+unfoldable pub with_parts : List (Option ℕ) → ℕ → List (List ℕ) → Result (List (Option ℕ)) (ℕ × (List ℕ × Fault))
+with_parts values start [] = Ok values
+with_parts values start (part ∷ parts) =
+    and_then (with_part values start part) (λ more. with_parts more (start + length part + 1) parts)
+
+-- What the words of a line come to. Before the first one no field is given.
+abbrev pub read_line : List ℕ → Result (List (Option ℕ)) (ℕ × (List ℕ × Fault))
+read_line line = with_parts (replicate 15 None) 0 (parts line)
+
+-- The same without a place: the values with what each of several words says, up to one that is wrong, which comes back with its fault.
+-- `words_read` of proofs/Readings says it of the words of a line.
 unfoldable pub with_words : List (Option ℕ) → List (List ℕ) → Result (List (Option ℕ)) (List ℕ × Fault)
 with_words values [] = Ok values
 with_words values (word ∷ words) =
     and_then (result_map_both (λ more. more) (λ fault. (word, fault)) (with_word values word)) (λ more. with_words more words)
-
--- What the words of a line come to. Before the first one no field is given.
-abbrev pub read_line : List ℕ → Result (List (Option ℕ)) (List ℕ × Fault)
-read_line line = with_words (replicate 15 None) (words line)
 
 -- A carriage return at the line's end is no part of it.
 unfoldable pub without_return : List ℕ → List ℕ
@@ -99,12 +111,12 @@ order_of values =
     }
 
 -- The order that a line names, or its first wrong word.
-abbrev pub order_named : List ℕ → Result Order (List ℕ × Fault)
+abbrev pub order_named : List ℕ → Result Order (ℕ × (List ℕ × Fault))
 order_named line = result_map_both order_of (λ wrong. wrong) (read_line line)
 
 -- A wrong word with its bytes in place of the reference to them.
-abbrev pub seen : {A : Type 0} → Result A Wrong → Result A (List ℕ × Fault)
-seen result = result_map_both (λ value. value) (λ wrong. (wrong.word.now, wrong.fault)) result
+abbrev pub seen : {A : Type 0} → Result A Wrong → Result A (ℕ × (List ℕ × Fault))
+seen result = result_map_both (λ value. value) (λ wrong. (wrong.start, (wrong.word.now, wrong.fault))) result
 
 -- What is said of a word that is wrong.
 abbrev pub said : Fault → List ℕ

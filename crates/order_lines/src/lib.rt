@@ -60,9 +60,10 @@ impl fmt::Display for Fault {
     }
 }
 
-// A line's first wrong word.
+// A line's first wrong word, and the place in the line where it starts.
 #[derive(Clone, Copy)]
 pub struct Wrong<'a> {
+    pub start: usize,
     pub word: &'a [u8],
     pub fault: Fault,
 }
@@ -146,16 +147,26 @@ fn with_word(values: Values, word: &[u8]) -> Result<Values, Fault>
     Ok(values)
 }
 
-// What the words of a line come to.
+// What the words of a line come to. They are those of its parts that are not empty.
 pub fn read_line(line: &[u8]) -> Result<Values, Wrong<'_>>
     ensures { seen result ≡ read_line line.now }
 {
     let mut values = [None; 15];
-    for word in line.split(words::is_space).filter(|part| !part.is_empty()) {
-        match with_word(values, word) {
-            Ok(more) => values = more,
-            Err(fault) => return Err(Wrong { word, fault }),
+    let mut start = 0;
+    for part in line.split(words::is_space) {
+        if !part.is_empty() {
+            match with_word(values, part) {
+                Ok(more) => values = more,
+                Err(fault) => {
+                    return Err(Wrong {
+                        start,
+                        word: part,
+                        fault,
+                    });
+                }
+            }
         }
+        start += part.len() + 1;
     }
     Ok(values)
 }

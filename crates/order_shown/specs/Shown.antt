@@ -30,10 +30,10 @@ abbrev pub passed_over : List ℕ → Bool
 passed_over line = eqb (get_or line 0 0) 0x23 || list_all is_space line
 
 -- What is said of any other line: an answer for the order that it names, or its first wrong word.
-unfoldable pub answer_for : List ℕ → Result (Option Answer) (List ℕ × Fault)
+unfoldable pub answer_for : List ℕ → Result (Option Answer) (ℕ × (List ℕ × Fault))
 answer_for line =
     cond (passed_over line) (Ok None)
     (result_map_both (λ order. Some (record { 0 = build order })) (λ wrong. wrong) (order_named line))
 
-abbrev pub answer_to : List ℕ → Result (Option Answer) (List ℕ × Fault)
+abbrev pub answer_to : List ℕ → Result (Option Answer) (ℕ × (List ℕ × Fault))
 answer_to line = answer_for (without_return line)
