@@ -1,6 +1,6 @@
 // Stream: the bytes that a program is given: those of the files that its words name, one file behind the other, or of standard input
 // where there is no word. Some of them at a time is `read`, for input of any size; all at once is `whole`.
-ghost use Rattle.std.specs.Prelude.{◌≡◌, ◌≢◌, ◌<◌, ◌≤◌, ◌-◌, ◌^◌, ◌*◌, true, length, take, IfOk};
+ghost use Rattle.std.specs.Prelude.{◌≡◌, ◌≢◌, ◌<◌, ◌≤◌, ◌+◌, ◌-◌, ◌^◌, ◌*◌, true, length, take, IfOk};
 ghost use Rattle.input.specs.Stream.{words_left};
 
 use crate::System;
@@ -83,7 +83,7 @@ impl<'a, S: System> Stream<'a, S> {
     // Closes the file that is open, and then opens the one behind it, if there is one: two are never open at once, and none is behind the
     // last.
     fn go_on(&mut self) -> Result<bool, Unread>
-        ensures fewer { IfOk result (λ more. more ≡ true → words_left self.new.source < words_left self.old.source) }
+        ensures next { IfOk result (λ more. more ≡ true → words_left self.new.source + 1 ≡ words_left self.old.source) }
         ensures closed { result ≢ Ok true → words_left self.new.source ≡ 0 }
     {
         let Source::File { word, .. } = self.source else {
