@@ -3,7 +3,8 @@ use Rattle.std.specs.Prelude.{ℕ, ◌-◌, ◌^◌}
 use Rattle.input.specs.declared.stream.Source.{Source}
 use Rattle.input.specs.declared.stream.Source.TheVariants.{Standard, File, Ended}
 
--- How many words may still name a file: those from the one whose file is open on. Behind standard input, and where nothing is open, none does.
+-- How many words may still name a file: those from the one whose file is open on. Behind standard input, or where nothing is open, none
+-- does.
 abbrev pub words_left : {R : Type 0} → Source R → ℕ
 words_left (Standard reader) = 0
 words_left (File word file) = 2 ^ 64 - word
