@@ -18,19 +18,21 @@ pub(crate) struct Buffered<W> {
     ghost within: { handed ≤ array_vec_len bytes },
 }
 
-// Writes once, and again where a signal breaks a write off. A loop has to end: so the tries are counted, to a number that none uses up.
+// Writes once, and again where a signal breaks a write off. Where there is no room for all of it at once, as in a pipe that does not wait,
+// half as much is tried: what there is room for goes out. A loop has to end: so the tries are counted, to a number that none uses up.
 fn write_once<W: Write>(to: &mut W, bytes: &[u8]) -> io::Result<usize>
     ensures bound { WritesAtMost result bytes.now }
     ensures bytes { WriteAppends (W.contents to.old) (W.contents to.new) result bytes.now }
 {
+    let mut part = bytes;
     for _ in 0..u64::MAX {
-        match to.write(bytes) {
+        match to.write(part) {
             Ok(n) => return Ok(n),
-            Err(error) => {
-                if error.kind() != ErrorKind::Interrupted {
-                    return Err(error);
-                }
-            }
+            Err(error) => match error.kind() {
+                ErrorKind::Interrupted => {}
+                ErrorKind::WouldBlock if part.len() > 1 => part = &part[..part.len() / 2],
+                _ => return Err(error),
+            },
         }
     }
     Err(Error::new(ErrorKind::TimedOut, "too many tries"))
