@@ -48,7 +48,9 @@ fn print_checked(capture: &[u8], out: &mut impl Write) -> io::Result<()> {
         return writeln!(out, "refused {}", checked.number);
     }
     if checked.accepted == 0 {
-        return writeln!(out, "differs {:02x} at {place}", checked.tag);
+        write!(out, "differs ")?;
+        out.write_all(&output::digits(checked.tag))?;
+        return writeln!(out, " at {place}");
     }
     writeln!(out, "accepted")
 }

@@ -7,6 +7,7 @@ ghost use Rattle.build.specs.Begun.{begun};
 
 use arrayvec::ArrayVec;
 use input::{Complaints, Failure, Program, Run, Stream, System};
+use order_lines::Complaint;
 use std::fmt::Display;
 use std::io;
 use std::io::{Stderr, Write};
@@ -78,30 +79,27 @@ impl Build {
         said
     }
 
-    // Says what a line comes to. An answer is handed on at once, in one write: answers and complaints come in the order of the lines.
+    // Says what a line comes to. An answer is one write.
     fn say(&self, line: &Line, out: &mut impl Write) -> io::Result<()> {
         let number = line.number;
         let Some(bytes) = &line.bytes else {
-            self.complain(number, "more than 4096 bytes");
+            self.complain(number, "more than 4096 bytes\n");
             return Ok(());
         };
         match order_shown::answer_to(bytes.as_slice()) {
-            Ok(Some(answer)) => {
-                write!(out, "{answer}")?;
-                out.flush()
-            }
+            Ok(Some(answer)) => write!(out, "{answer}"),
             Ok(None) => Ok(()),
             Err(wrong) => {
-                self.complain(number, wrong);
+                self.complain(number, Complaint(wrong));
                 Ok(())
             }
         }
     }
 
-    // Tells of a line on standard error.
+    // Tells of a line on standard error: what is said ends it.
     fn complain(&self, number: u64, what: impl Display + Drop) {
         let mut err = Complaints::from(self.complaints);
-        let _ = write!(err, "build: line {number}: {what}\n");
+        let _ = write!(err, "build: line {number}: {what}");
     }
 }
 

@@ -122,6 +122,11 @@ fn count<S: System>(input: &mut Stream<'_, S>) -> Result<Result<Counted, u8>, Un
     Ok(Ok(counted))
 }
 
+// The line of what is counted.
+fn print_count(what: &str, count: u64, out: &mut impl Write) -> io::Result<()> {
+    writeln!(out, "{what} {count}")
+}
+
 // The lines of a grouping: its classes are numbers from `first` on, and none is behind them.
 fn print_classes(
     grouping: &str,
@@ -137,15 +142,16 @@ fn print_classes(
     for (i, count) in classes.iter().enumerate() {
         writeln!(out, "{grouping} {} {count}", first + i)?;
     }
-    writeln!(out, "{grouping} none {none}")
+    write!(out, "{grouping}")?;
+    print_count(" none", u64::from(*none), out)
 }
 
 fn print_counted(counted: &Counted, out: &mut impl Write) -> io::Result<()> {
     let census = counted.census;
-    writeln!(out, "blocks {}", census.blocks)?;
-    writeln!(out, "damaged {}", counted.damaged)?;
-    writeln!(out, "wwn {}", census.named)?;
-    writeln!(out, "text {}", census.unnamed)?;
+    print_count("blocks", u64::from(census.blocks), out)?;
+    print_count("damaged", counted.damaged, out)?;
+    print_count("wwn", u64::from(census.named), out)?;
+    print_count("text", u64::from(census.unnamed), out)?;
     print_classes("udma", 0, &census.udma, out)?;
     print_classes("version", 1, &census.version, out)
 }

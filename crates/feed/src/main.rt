@@ -5,9 +5,9 @@
 
 ghost use Rattle.std.specs.Prelude.{◌+◌, ◌≤◌, length, IfSome};
 
-use input::{Failure, Program, Run, Stream, System};
+use input::{Complaints, Failure, Program, Run, Stream, System};
 use intake::Intake;
-use output::Text;
+use output::{Piece, Text};
 use std::io::Write;
 use std::{fmt, io};
 
@@ -43,7 +43,19 @@ impl Program for Feed {
             Err(wrong) => Err(Failure::Wrong(wrong)),
         }
     }
+
+    // The name is one write with the words behind it, up to a number.
+    fn complain(wrong: Wrong, err: &mut Complaints) -> io::Result<()> {
+        match wrong {
+            Wrong::TooLong => writeln!(err, "feed: {wrong}"),
+            Wrong::InsideRun(run) => {
+                writeln!(err, "{}{run}", Piece(format_args!("feed: {INSIDE_RUN}")))
+            }
+        }
+    }
 }
+
+const INSIDE_RUN: &'static str = "the input ends inside run ";
 
 // What is wrong with input that is no such runs.
 #[derive(Clone, Copy)]
@@ -57,7 +69,7 @@ impl fmt::Display for Wrong {
     fn fmt<W: fmt::Write>(&self, f: &mut fmt::Formatter<W>) -> fmt::Result {
         match self {
             Wrong::TooLong => write!(f, "more than 65536 bytes"),
-            Wrong::InsideRun(run) => write!(f, "the input ends inside run {run}"),
+            Wrong::InsideRun(run) => write!(f, "{INSIDE_RUN}{run}"),
         }
     }
 }
@@ -148,8 +160,10 @@ fn print_page(page: &[u8; 76], count: usize, out: &mut impl Write) -> io::Result
         );
     }
     write!(out, "name ")?;
-    for byte in &page[8..16] {
-        write!(out, "{byte:02x}")?;
+    let (words, _) = page[8..16].as_chunks::<2>();
+    for word in words {
+        let word = u16::from_be_bytes(*word);
+        write!(out, "{}", Piece(format_args!("{word:04x}")))?;
     }
     writeln!(out)
 }

@@ -55,7 +55,11 @@ fn print_drive(i: usize, said: Said, out: &mut impl Write) -> io::Result<()> {
         Said::Healthy => writeln!(out, "{i} healthy"),
         Said::Failing => writeln!(out, "{i} failing"),
         Said::Unknown => writeln!(out, "{i} unknown"),
-        Said::Error(error) => writeln!(out, "{i} error {error:02x}"),
+        Said::Error(error) => {
+            write!(out, "{i} error ")?;
+            out.write_all(&output::digits(error))?;
+            writeln!(out)
+        }
         Said::Refused(number) => writeln!(out, "{i} refused {number}"),
     }
 }

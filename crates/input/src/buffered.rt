@@ -1,11 +1,12 @@
-// Buffered: a writer in front of another. It gathers what it is given, and hands it on where it is full and where it is flushed: what is
-// printed in pieces goes out in one write. Its room lies in the value itself, so that it takes no memory from a heap.
-ghost use Rattle.std.specs.Prelude.{◌≡◌, ◌+◌, ◌<◌, ◌≤◌, [], ◌++◌, length, IfOk, OnOk};
+// Buffered: a writer in front of another. It gathers what it is given, and hands it on where it is full and where it is flushed: a help, put
+// together of pieces, goes out in one write. Its room lies in the value itself, so that it takes no memory from a heap.
+ghost use Rattle.std.specs.Prelude.{◌≡◌, ◌+◌, ◌<◌, ◌≤◌, [], ◌++◌, length, IfOk, IfSome, OnOk};
 ghost use Rattle.std.specs.Io.{WritesAtMost};
 ghost use Rattle.std.specs.Io.KnownBytes.{Keeps, Appends, WriteAppends};
 ghost use Rattle.arrayvec.specs.ArrayVec.{array_vec_len};
 
 use arrayvec::ArrayVec;
+use std::fmt::Display;
 use std::io;
 use std::io::{Error, ErrorKind, Write};
 
@@ -18,21 +19,19 @@ pub(crate) struct Buffered<W> {
     ghost within: { handed ≤ array_vec_len bytes },
 }
 
-// Writes once, and again where a signal breaks a write off. Where there is no room for all of it at once, as in a pipe that does not wait,
-// half as much is tried: what there is room for goes out. A loop has to end: so the tries are counted, to a number that none uses up.
+// Writes once, and again where a signal breaks a write off. A loop has to end: so the tries are counted, to a number that none uses up.
 fn write_once<W: Write>(to: &mut W, bytes: &[u8]) -> io::Result<usize>
     ensures bound { WritesAtMost result bytes.now }
     ensures bytes { WriteAppends (W.contents to.old) (W.contents to.new) result bytes.now }
 {
-    let mut part = bytes;
     for _ in 0..u64::MAX {
-        match to.write(part) {
+        match to.write(bytes) {
             Ok(n) => return Ok(n),
-            Err(error) => match error.kind() {
-                ErrorKind::Interrupted => {}
-                ErrorKind::WouldBlock if part.len() > 1 => part = &part[..part.len() / 2],
-                _ => return Err(error),
-            },
+            Err(error) => {
+                if error.kind() != ErrorKind::Interrupted {
+                    return Err(error);
+                }
+            }
         }
     }
     Err(Error::new(ErrorKind::TimedOut, "too many tries"))
@@ -91,6 +90,19 @@ impl<W: Write> Buffered<W> {
             done += self.write(&bytes[done..])?;
         }
         Ok(())
+    }
+}
+
+impl<W: Write> Buffered<W> {
+    ghost use Rattle.input.specs.Buffered.{waiting, buffered_contents};
+
+    // Gathers a text, and hands it on in one write, whatever it is put together of.
+    pub(crate) fn write_at_once<D: Display + Drop>(&mut self, text: D) -> io::Result<()>
+        ensures bytes { OnOk result (IfSome (D.output text) (Appends (buffered_contents W.contents self.old) (buffered_contents W.contents self.new))) }
+        ensures empty { OnOk result (waiting self.new ≡ []) }
+    {
+        write!(self, "{text}")?;
+        self.flush()
     }
 }
 

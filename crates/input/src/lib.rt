@@ -6,12 +6,10 @@ mod buffered;
 pub mod failure;
 pub mod stream;
 
-ghost use Rattle.std.specs.Prelude.{◌≡◌, ◌≢◌, []};
-ghost use Rattle.input.specs.Buffered.{waiting};
-
 use arrayvec::ArrayString;
 use buffered::Buffered;
 pub use failure::{Failure, Unread};
+use output::Piece;
 use program_words::Wanted;
 use std::env::FillError;
 use std::fmt::{Display, Write as _};
@@ -59,6 +57,11 @@ pub trait Program {
         input: &mut Stream<'_, S>,
         out: &mut W,
     ) -> Result<(), Failure<Self::Wrong>>;
+
+    // Says what is wrong with its input.
+    fn complain(wrong: Self::Wrong, err: &mut Complaints) -> io::Result<()> {
+        say(Self::NAME, wrong, err)
+    }
 }
 
 // What every program does.
@@ -70,47 +73,22 @@ pub trait Run {
 impl<P: Program> Run for P {
     fn run(&self, rt: &impl System) {
         if let Err(failure) = follow(rt, self) {
-            let _ = complain(rt, P::NAME, failure);
+            let _ = complain::<P>(rt, failure);
         }
     }
-}
-
-fn follow<P: Program>(rt: &impl System, program: &P) -> Result<(), Failure<P::Wrong>> {
-    let mut out = Buffered::new(io::writer(rt));
-    let printed = print(rt, program, &mut out);
-    finish(&mut out, printed)
 }
 
 // Prints what the words ask for.
-fn print<P: Program>(
-    rt: &impl System,
-    program: &P,
-    out: &mut impl Write,
-) -> Result<(), Failure<P::Wrong>> {
+fn follow<P: Program>(rt: &impl System, program: &P) -> Result<(), Failure<P::Wrong>> {
+    let mut out = io::writer(rt);
     match wanted(rt)? {
         Wanted::Read => {
             let mut input = Stream::try_from(rt)?;
-            program.print(&mut input, out)
+            program.print(&mut input, &mut out)
         }
-        Wanted::Help => Ok(print_help::<P>(out)?),
-        Wanted::Version => Ok(print_version::<P>(out)?),
+        Wanted::Help => Ok(print_help::<P>(&mut out)?),
+        Wanted::Version => Ok(print_version::<P>(&mut out)?),
     }
-}
-
-// Hands on what is printed and still waits, also where the program failed behind it: that comes before its complaint. Where writing is
-// what failed, it is not tried again.
-fn finish<W: Write, C: Drop>(
-    out: &mut Buffered<W>,
-    printed: Result<(), Failure<C>>,
-) -> Result<(), Failure<C>>
-    ensures handed { result ≢ Err Failure.Unwritten → waiting out.new ≡ [] }
-    ensures same { result ≢ Err Failure.Unwritten → result ≡ printed }
-{
-    if let Err(Failure::Unwritten) = &printed {
-        return printed;
-    }
-    out.flush()?;
-    printed
 }
 
 // What the words ask for: the first that names no file decides.
@@ -133,18 +111,14 @@ fn wanted<C>(rt: &impl System) -> Result<Wanted, Failure<C>> {
 
 fn print_version<P: Program>(out: &mut impl Write) -> io::Result<()> {
     let name = P::NAME;
-    writeln!(out, "{name} (piongseut) {VERSION}")
-}
-
-fn print_usage(out: &mut impl Write, name: &str) -> io::Result<()> {
-    write!(out, "usage: {name}{WORDS}")
+    Buffered::new(out).write_at_once(format_args!("{name} (piongseut) {VERSION}\n"))
 }
 
 fn print_help<P: Program>(out: &mut impl Write) -> io::Result<()> {
-    print_usage(out, P::NAME)?;
-    writeln!(out, "{}", P::HELP)?;
-    writeln!(out, "{WHERE}")?;
-    writeln!(out, "Example: ./run {} {}", P::NAME, P::EXAMPLE)
+    let (name, help, example) = (P::NAME, P::HELP, P::EXAMPLE);
+    Buffered::new(out).write_at_once(format_args!(
+        "usage: {name}{WORDS}{help}\n{WHERE}\nExample: ./run {name} {example}\n"
+    ))
 }
 
 // Standard error, for a complaint. A piece that cannot be said there is passed over, and the next is tried: there is nobody to tell.
@@ -170,28 +144,37 @@ impl Write for Complaints {
     }
 }
 
-// Says on standard error what went wrong, behind the program's name.
-fn complain<C: Display + Drop>(
-    rt: &impl System,
-    name: &str,
-    failure: Failure<C>,
-) -> io::Result<()> {
+// Says something behind a program's name, which is one write with the colon behind it.
+fn say(name: &str, what: impl Display + Drop, err: &mut Complaints) -> io::Result<()> {
+    writeln!(err, "{}{what}", Piece(format_args!("{name}: ")))
+}
+
+// Says on standard error what went wrong.
+fn complain<P: Program>(rt: &impl System, failure: Failure<P::Wrong>) -> io::Result<()> {
     let mut err = Complaints::from(rt.complaints());
-    write!(err, "{name}: ")?;
+    let name = P::NAME;
     match failure {
-        Failure::LongWord(i) => writeln!(err, "more than 4096 bytes in word {i}"),
+        Failure::LongWord(i) => {
+            write!(err, "{name}: ")?;
+            writeln!(err, "more than 4096 bytes in word {i}")
+        }
         Failure::NoOption(i) => {
+            write!(err, "{name}: ")?;
             write_word(rt, i, &mut err)?;
             write!(err, " is no option\nusage: {name}{WORDS}")
         }
-        Failure::Unread(Unread::Standard) => writeln!(err, "standard input could not be read"),
+        Failure::Unread(Unread::Standard) => {
+            write!(err, "{name}: ")?;
+            writeln!(err, "standard input could not be read")
+        }
         Failure::Unread(Unread::File { word, error }) => {
+            write!(err, "{name}: ")?;
             write_word(rt, word, &mut err)?;
             write!(err, ": ")?;
             write_reason(error, &mut err)
         }
-        Failure::Wrong(wrong) => writeln!(err, "{wrong}"),
-        Failure::Unwritten => writeln!(err, "standard output could not be written"),
+        Failure::Wrong(wrong) => P::complain(wrong, &mut err),
+        Failure::Unwritten => say(name, "standard output could not be written", &mut err),
     }
 }
 

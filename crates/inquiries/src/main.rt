@@ -8,7 +8,7 @@
 
 use input::{Failure, Program, Run, Stream, System};
 use std::io;
-use std::io::Write;
+use std::io::{Error, ErrorKind, Write};
 
 // What each disk is asked: every page, with an allocation length of 572 that cuts none, and last page 83h cut to five bytes.
 const COMMANDS: [[u8; 6]; 6] = [
@@ -65,13 +65,25 @@ fn signature(mid: u8, high: u8) -> [u8; 20] {
     frame
 }
 
+// Bytes, each in two hexadecimal digits. They are most of what is printed, and an error of the system is large: handing it on from each
+// byte takes a tenth of the time. The frame asks only whether there is one: so another stands for it.
+fn print_bytes(bytes: &[u8], out: &mut impl Write) -> io::Result<()> {
+    for byte in bytes {
+        if out.write_all(&output::digits(*byte)).is_err() {
+            return Err(Error::from(ErrorKind::Other));
+        }
+    }
+    Ok(())
+}
+
 // What a command asks for: standard data, or the page of its byte 2.
 fn print_page(command: &[u8; 6], out: &mut impl Write) -> io::Result<()> {
-    if rules::bit(command[1], 0) {
-        write!(out, " {:02x}h", command[2])
-    } else {
-        write!(out, " standard")
+    if !rules::bit(command[1], 0) {
+        return write!(out, " standard");
     }
+    write!(out, " ")?;
+    print_bytes(&command[2..3], out)?;
+    write!(out, "h")
 }
 
 // Asks the board, and prints the line from the page's name on.
@@ -97,14 +109,13 @@ fn ask(
         &mut sense,
     );
     print_page(command, out)?;
-    write!(
+    write!(out, " {} ", answer.number)?;
+    print_bytes(&[answer.status], out)?;
+    write!(out, " {} ", answer.count)?;
+    print_bytes(
+        inquiry::served(reply, &room, answer.shown, answer.count),
         out,
-        " {} {:02x} {} ",
-        answer.number, answer.status, answer.count
     )?;
-    for byte in inquiry::served(reply, &room, answer.shown, answer.count) {
-        write!(out, "{byte:02x}")?;
-    }
     writeln!(out)
 }
 

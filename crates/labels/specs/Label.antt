@@ -6,9 +6,9 @@ use Rattle.checksum.specs.Checksum.{damaged}
 use Rattle.roll.specs.Roll.{roll}
 use Rattle.output.specs.Shown.{shown}
 
--- A text of a drive, turned and spaced, in brackets, each byte as it is shown.
+-- A space, and a text of a drive in brackets, turned and spaced, each byte as it is shown.
 abbrev pub shown_field : List ℕ → List ℕ
-shown_field text = 0x5B ∷ flat_map shown (spaced (turned text)) ++ 0x5D ∷ []
+shown_field text = 0x20 ∷ 0x5B ∷ flat_map shown (spaced (turned text)) ++ 0x5D ∷ []
 
 -- A block that is not damaged is used.
 abbrev pub is_used : List ℕ → Bool

@@ -8,7 +8,7 @@ ghost use Rattle.std.specs.List.{flat_map};
 ghost use Rattle.labels.specs.Label.{shown_field, is_used as Label·is_used, used, rows_given, row_beside};
 
 use input::{Failure, Program, Run, Stream, System};
-use output::Shown;
+use output::{Piece, Shown};
 use std::io::Write;
 use std::{fmt, io};
 
@@ -43,7 +43,8 @@ impl Program for Labels {
     }
 }
 
-// A text of a drive, turned and spaced, in brackets, each byte as it is shown: what a drive calls itself gives no commands to a terminal.
+// A space, and a text of a drive in brackets, turned and spaced, each byte as it is shown: what a drive calls itself gives no commands to a
+// terminal.
 #[derive(Clone, Copy)]
 struct Field<'a>(&'a [u8]);
 
@@ -52,7 +53,7 @@ impl fmt::Display for Field<'_> {
 
     fn fmt<W: fmt::Write>(&self, f: &mut fmt::Formatter<W>) -> fmt::Result {
         let text = self.0;
-        write!(f, "[")?;
+        write!(f, " [")?;
         // Each byte is read at its place, turned: a chain over the bytes as they stand would not give them so.
         for i in 0..text.len() {
             write!(f, "{}", Shown(texts::turned_at(text, i, true)))?;
@@ -68,7 +69,8 @@ fn print_name(block: &[u8; 512], out: &mut impl Write) -> io::Result<()> {
     }
     write!(out, " name ")?;
     for w in 108..=111 {
-        write!(out, "{:04x}", identify::word(block, w))?;
+        let word = identify::word(block, w);
+        write!(out, "{}", Piece(format_args!("{word:04x}")))?;
     }
     Ok(())
 }
@@ -77,7 +79,7 @@ fn print_label(i: usize, block: &[u8; 512], row: u16, out: &mut impl Write) -> i
     let model = Field(identify::model(block));
     let serial = Field(identify::serial(block));
     let firmware = Field(identify::firmware(block));
-    write!(out, "{i} {model} {serial} {firmware}")?;
+    write!(out, "{i}{model}{serial}{firmware}")?;
     print_name(block, out)?;
     writeln!(out, " drive {row}")
 }

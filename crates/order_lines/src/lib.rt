@@ -1,11 +1,11 @@
 // Order lines: the order that a line of text names, as words `field=value`. The rules stand in specs/Line.
 #![tactic(auto)]
 
-ghost use Rattle.std.specs.Prelude.{◌≡◌, ◌<◌, ◌%◌, Some, IfOk};
+ghost use Rattle.std.specs.Prelude.{◌≡◌, ◌<◌, ◌%◌, ◌++◌, ◌∷◌, [], Some, IfOk};
 ghost use Rattle.order_lines.specs.Line.{limit as Line·limit, value_of, equals_in, word_of, with_word, read_line, seen, without_return, value as Line·value, order_of, order_named, said, complaint};
 
 use order_words::{number, words};
-use output::Text;
+use output::{Piece, Text};
 use passthrough_order::Order;
 use std::fmt;
 
@@ -75,6 +75,20 @@ impl fmt::Display for Wrong<'_> {
         let word = Text(self.word);
         let fault = self.fault;
         write!(f, "{word} {fault}")
+    }
+}
+
+// The line that tells of a wrong word. What is wrong with it and the line's end are one write.
+#[derive(Clone, Copy)]
+pub struct Complaint<'a>(pub Wrong<'a>);
+
+impl fmt::Display for Complaint<'_> {
+    ghost output = { λ line. Some (complaint line.0.word.now line.0.fault ++ 0x0A ∷ []) };
+
+    fn fmt<W: fmt::Write>(&self, f: &mut fmt::Formatter<W>) -> fmt::Result {
+        let word = Text(self.0.word);
+        let fault = self.0.fault;
+        write!(f, "{word}{}", Piece(format_args!(" {fault}\n")))
     }
 }
 

@@ -1,13 +1,14 @@
-// Output: how the board's programs show a text that a drive or a person gave.
+// Output: how the board's programs show a text that a drive or a person gave, and what of a line goes out in one write.
 #![tactic(auto)]
 
-ghost use Rattle.std.specs.Prelude.{◌≡◌, ◌<◌, false, Some};
+ghost use Rattle.std.specs.Prelude.{◌≡◌, ◌<◌, ◌/◌, ◌%◌, ◌∷◌, [], false, Some};
 ghost use Rattle.std.specs.List.{flat_map};
 ghost use Rattle.std.specs.Fmt.{digit_glyph};
 ghost use Rattle.output.specs.Shown.{printable, shown};
 
 use arrayvec::ArrayString;
 use std::fmt;
+use std::fmt::{Display, Write as _};
 
 // The hexadecimal digit of a number.
 pub fn digit(number: u8) -> u8
@@ -18,6 +19,13 @@ pub fn digit(number: u8) -> u8
         return 48 + number;
     }
     87 + number
+}
+
+// A byte in two hexadecimal digits.
+pub fn digits(byte: u8) -> [u8; 2]
+    ensures { result ≡ digit_glyph false (byte / 16) ∷ digit_glyph false (byte % 16) ∷ [] }
+{
+    [digit(byte / 16), digit(byte % 16)]
 }
 
 // Whether a byte is shown as it is: from the space to the tilde.
@@ -75,5 +83,22 @@ impl fmt::Display for Text<'_> {
             write!(f, "{}", Shown(*byte))?;
         }
         Ok(())
+    }
+}
+
+// What goes out in one write, though it is put together of more, as a number and the zeros before it are. Up to 64 bytes are gathered; more
+// than that goes out as it is put together.
+#[derive(Drop)]
+pub struct Piece<T>(pub T);
+
+impl<T: Display> Display for Piece<T> {
+    ghost output = { λ piece. T.output piece.0 };
+
+    fn fmt<W: fmt::Write>(&self, f: &mut fmt::Formatter<W>) -> fmt::Result {
+        let mut text = ArrayString::<64>::new();
+        match write!(text, "{}", self.0) {
+            Ok(()) => write!(f, "{text}"),
+            Err(_) => write!(f, "{}", self.0),
+        }
     }
 }

@@ -44,12 +44,13 @@ fn print_roll(bytes: &[u8], out: &mut impl Write) -> io::Result<()> {
     writeln!(out, "blocks {} drives {}", counted.blocks, counted.drives)?;
     let (blocks, _) = bytes.as_chunks::<512>();
     for (i, (block, row)) in blocks.iter().zip(rows).enumerate() {
+        // What tells the drive, up to the line's end, is one write.
         let told_by = if identify::carries_name(block) {
-            "wwn"
+            " wwn\n"
         } else {
-            "text"
+            " text\n"
         };
-        writeln!(out, "{i} {row} {told_by}")?;
+        write!(out, "{i} {row}{told_by}")?;
     }
     Ok(())
 }

@@ -1,0 +1,2 @@
+-- For what is gathered of a piece.
+mod Gathered
