@@ -6,10 +6,9 @@
 ghost use Rattle.build.specs.Begun.{begun};
 
 use arrayvec::ArrayVec;
-use input::{Complaints, Failure, Program, Run, Stream, System};
+use input::{Complaints, Failure, Program, Run, Stream, System, Unwritten};
 use order_lines::Complaint;
 use std::fmt::Display;
-use std::io;
 use std::io::{Stderr, Write};
 
 // The program, which tells of wrong lines on standard error while it goes on.
@@ -57,7 +56,12 @@ impl Program for Build {
 
 impl Build {
     // Takes a part of the input, line by line.
-    fn take_part(&self, line: &mut Line, part: &[u8], out: &mut impl Write) -> io::Result<()> {
+    fn take_part(
+        &self,
+        line: &mut Line,
+        part: &[u8],
+        out: &mut impl Write,
+    ) -> Result<(), Unwritten> {
         for piece in part.split_inclusive(|byte| *byte == b'\n') {
             match piece.strip_suffix(b"\n") {
                 Some(end) => {
@@ -71,7 +75,7 @@ impl Build {
     }
 
     // Says what a line comes to, and begins the next, in which no byte of it is left.
-    fn end_line(&self, line: &mut Line, out: &mut impl Write) -> io::Result<()>
+    fn end_line(&self, line: &mut Line, out: &mut impl Write) -> Result<(), Unwritten>
         ensures { begun line.new }
     {
         let said = self.say(line, out);
@@ -80,14 +84,14 @@ impl Build {
     }
 
     // Says what a line comes to. An answer is one write.
-    fn say(&self, line: &Line, out: &mut impl Write) -> io::Result<()> {
+    fn say(&self, line: &Line, out: &mut impl Write) -> Result<(), Unwritten> {
         let number = line.number;
         let Some(bytes) = &line.bytes else {
             self.complain(number, "more than 4096 bytes\n");
             return Ok(());
         };
         match order_shown::answer_to(bytes.as_slice()) {
-            Ok(Some(answer)) => write!(out, "{answer}"),
+            Ok(Some(answer)) => Ok(write!(out, "{answer}")?),
             Ok(None) => Ok(()),
             Err(wrong) => {
                 self.complain(number, Complaint(wrong));

@@ -22,6 +22,27 @@ pub enum Failure<C> {
     Unwritten,
 }
 
+// That standard output could not be written, and no more. An error of the system is large: who prints much hands this on.
+#[derive(Clone, Copy)]
+pub struct Unwritten;
+
+impl From<Error> for Unwritten {
+    fn from(_error: Error) -> Unwritten {
+        Unwritten
+    }
+}
+
+impl<C> From<Unwritten> for Failure<C> {
+    ghost use Rattle.input.specs.declared.failure.Failure.TheVariants.{Unwritten as unwritten};
+    ghost use Rattle.std.specs.Prelude.{◌≡◌};
+
+    ghost from_gives = { λ _ failure. failure ≡ unwritten };
+
+    fn from(_unwritten: Unwritten) -> Failure<C> {
+        Failure::Unwritten
+    }
+}
+
 impl<C> From<Unread> for Failure<C> {
     ghost use Rattle.input.specs.declared.failure.Failure.TheVariants.{Unread as unread};
     ghost use Rattle.std.specs.Prelude.{◌≡◌};

@@ -8,7 +8,7 @@ pub mod stream;
 
 use arrayvec::ArrayString;
 use buffered::Buffered;
-pub use failure::{Failure, Unread};
+pub use failure::{Failure, Unread, Unwritten};
 use output::Piece;
 use program_words::Wanted;
 use std::env::FillError;

@@ -6,9 +6,8 @@
 // sg_vpd of sg3-utils 1.46: the names, texts and words that they decode from it are those of the blocks.
 #![tactic(auto)]
 
-use input::{Failure, Program, Run, Stream, System};
-use std::io;
-use std::io::{Error, ErrorKind, Write};
+use input::{Failure, Program, Run, Stream, System, Unwritten};
+use std::io::Write;
 
 // What each disk is asked: every page, with an allocation length of 572 that cuts none, and last page 83h cut to five bytes.
 const COMMANDS: [[u8; 6]; 6] = [
@@ -65,25 +64,22 @@ fn signature(mid: u8, high: u8) -> [u8; 20] {
     frame
 }
 
-// Bytes, each in two hexadecimal digits. They are most of what is printed, and an error of the system is large: handing it on from each
-// byte takes a tenth of the time. The frame asks only whether there is one: so another stands for it.
-fn print_bytes(bytes: &[u8], out: &mut impl Write) -> io::Result<()> {
+// Bytes, each in two hexadecimal digits.
+fn print_bytes(bytes: &[u8], out: &mut impl Write) -> Result<(), Unwritten> {
     for byte in bytes {
-        if out.write_all(&output::digits(*byte)).is_err() {
-            return Err(Error::from(ErrorKind::Other));
-        }
+        out.write_all(&output::digits(*byte))?;
     }
     Ok(())
 }
 
 // What a command asks for: standard data, or the page of its byte 2.
-fn print_page(command: &[u8; 6], out: &mut impl Write) -> io::Result<()> {
+fn print_page(command: &[u8; 6], out: &mut impl Write) -> Result<(), Unwritten> {
     if !rules::bit(command[1], 0) {
-        return write!(out, " standard");
+        return Ok(write!(out, " standard")?);
     }
     write!(out, " ")?;
     print_bytes(&command[2..3], out)?;
-    write!(out, "h")
+    Ok(write!(out, "h")?)
 }
 
 // Asks the board, and prints the line from the page's name on.
@@ -93,7 +89,7 @@ fn ask(
     signature: &[u8],
     reply: &[u8],
     out: &mut impl Write,
-) -> io::Result<()> {
+) -> Result<(), Unwritten> {
     let mut room = [0u8; 572];
     let mut sense = [0u8; 22];
     let answer = inquiry::inquiry(
@@ -116,10 +112,10 @@ fn ask(
         inquiry::served(reply, &room, answer.shown, answer.count),
         out,
     )?;
-    writeln!(out)
+    Ok(writeln!(out)?)
 }
 
-fn print_disks(blocks: &[[u8; 512]], out: &mut impl Write) -> io::Result<()> {
+fn print_disks(blocks: &[[u8; 512]], out: &mut impl Write) -> Result<(), Unwritten> {
     let signature = signature(0x00, 0x00);
     for (i, block) in blocks.iter().enumerate() {
         for command in &COMMANDS {
@@ -132,7 +128,7 @@ fn print_disks(blocks: &[[u8; 512]], out: &mut impl Write) -> io::Result<()> {
 
 // Asks for two pages of a packet drive that gave no block. The board adds 89h to its own page 00h, and shows its standard data as they
 // are.
-fn print_packet_drive(out: &mut impl Write) -> io::Result<()> {
+fn print_packet_drive(out: &mut impl Write) -> Result<(), Unwritten> {
     let signature = signature(0x14, 0xEB);
     let supported = [0x05, 0x00, 0x00, 0x03, 0x00, 0x80, 0x83];
     let standard = b"\x05\x80\x05\x02\x1F\x00\x00\x00PIONG   PACKET DRIVE    1.0 ";
