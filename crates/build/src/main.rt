@@ -50,7 +50,7 @@ impl Program for Build {
         if line.is_empty() {
             return Ok(());
         }
-        Ok(self.say(&line, out)?)
+        Ok(self.say_line(&line, out)?)
     }
 }
 
@@ -64,33 +64,43 @@ impl Build {
     ) -> Result<(), Unwritten> {
         for piece in part.split_inclusive(|byte| *byte == b'\n') {
             match piece.strip_suffix(b"\n") {
-                Some(end) => {
-                    line.add(end);
-                    self.end_line(line, out)?;
-                }
+                Some(end) => self.end_line(line, end, out)?,
                 None => line.add(piece),
             }
         }
         Ok(())
     }
 
-    // Says what a line comes to, and begins the next, in which no byte of it is left.
-    fn end_line(&self, line: &mut Line, out: &mut impl Write) -> Result<(), Unwritten>
+    // Says what a line comes to that ends with these bytes, and begins the next, in which no byte of it is left. A line that lies within one
+    // part is not copied.
+    fn end_line(&self, line: &mut Line, end: &[u8], out: &mut impl Write) -> Result<(), Unwritten>
         ensures { begun line.new }
     {
-        let said = self.say(line, out);
+        let said = if line.is_empty() && end.len() <= 4096 {
+            self.say(line.number, end, out)
+        } else {
+            line.add(end);
+            self.say_line(line, out)
+        };
         line.next();
         said
     }
 
-    // Says what a line comes to. An answer is one write.
-    fn say(&self, line: &Line, out: &mut impl Write) -> Result<(), Unwritten> {
+    // Says what the line comes to that is on its way.
+    fn say_line(&self, line: &Line, out: &mut impl Write) -> Result<(), Unwritten> {
         let number = line.number;
-        let Some(bytes) = &line.bytes else {
-            self.complain(number, "more than 4096 bytes\n");
-            return Ok(());
-        };
-        match order_shown::answer_to(bytes.as_slice()) {
+        match &line.bytes {
+            Some(bytes) => self.say(number, bytes.as_slice(), out),
+            None => {
+                self.complain(number, "more than 4096 bytes\n");
+                Ok(())
+            }
+        }
+    }
+
+    // Says what the bytes of a line come to. An answer is one write.
+    fn say(&self, number: u64, bytes: &[u8], out: &mut impl Write) -> Result<(), Unwritten> {
+        match order_shown::answer_to(bytes) {
             Ok(Some(answer)) => Ok(write!(out, "{answer}")?),
             Ok(None) => Ok(()),
             Err(wrong) => {
