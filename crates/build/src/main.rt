@@ -3,7 +3,9 @@
 // number. What a line comes to is proved in `order_shown`; reading the lines, and writing what they come to, no contract can say.
 #![tactic(auto)]
 
-ghost use Rattle.build.specs.Begun.{begun};
+ghost use Rattle.std.specs.Prelude.{◌≡◌, true};
+ghost use Rattle.std.specs.Option.{option_map};
+ghost use Rattle.build.specs.Begun.{begun, with_more};
 
 use arrayvec::ArrayVec;
 use input::{Complaints, Failure, Program, Run, Stream, System, Unwritten};
@@ -50,7 +52,7 @@ impl Program for Build {
         if line.is_empty() {
             return Ok(());
         }
-        Ok(self.say_line(&line, out)?)
+        Ok(self.end_line(&mut line, b"", out)?)
     }
 }
 
@@ -71,31 +73,20 @@ impl Build {
         Ok(())
     }
 
-    // Says what a line comes to that ends with these bytes, and begins the next, in which no byte of it is left. A line that lies within one
-    // part is not copied.
+    // Says what a line comes to that ends with these bytes, and begins the next, in which no byte of it is left.
     fn end_line(&self, line: &mut Line, end: &[u8], out: &mut impl Write) -> Result<(), Unwritten>
         ensures { begun line.new }
     {
-        let said = if line.is_empty() && end.len() <= 4096 {
-            self.say(line.number, end, out)
-        } else {
-            line.add(end);
-            self.say_line(line, out)
-        };
-        line.next();
-        said
-    }
-
-    // Says what the line comes to that is on its way.
-    fn say_line(&self, line: &Line, out: &mut impl Write) -> Result<(), Unwritten> {
         let number = line.number;
-        match &line.bytes {
-            Some(bytes) => self.say(number, bytes.as_slice(), out),
+        let said = match line.whole(end) {
+            Some(bytes) => self.say(number, bytes, out),
             None => {
                 self.complain(number, "more than 4096 bytes\n");
                 Ok(())
             }
-        }
+        };
+        line.next();
+        said
     }
 
     // Says what the bytes of a line come to. An answer is one write.
@@ -135,7 +126,9 @@ impl Line {
     }
 
     // Whether there is no byte of it.
-    fn is_empty(&self) -> bool {
+    fn is_empty(&self) -> bool
+        ensures { result ≡ true → begun self.now }
+    {
         match &self.bytes {
             Some(bytes) => bytes.is_empty(),
             None => false,
@@ -143,13 +136,29 @@ impl Line {
     }
 
     // Adds bytes to it.
-    fn add(&mut self, more: &[u8]) {
+    fn add(&mut self, more: &[u8])
+        ensures { option_map (λ bytes. bytes.items) self.new.bytes ≡ with_more self.old.bytes more.now }
+    {
         let fits = match &mut self.bytes {
             Some(bytes) => bytes.try_extend_from_slice(more).is_ok(),
             None => false,
         };
         if !fits {
             self.bytes = None;
+        }
+    }
+
+    // Its bytes, of which these are the last; none where a line has not so many. A line that lies within one part is not copied.
+    fn whole<'a>(&'a mut self, end: &'a [u8]) -> Option<&'a [u8]>
+        ensures { option_map (λ bytes. bytes.now) result ≡ with_more self.old.bytes end.now }
+    {
+        if self.is_empty() && end.len() <= 4096 {
+            return Some(end);
+        }
+        self.add(end);
+        match &self.bytes {
+            Some(bytes) => Some(bytes.as_slice()),
+            None => None,
         }
     }
 

@@ -1,8 +1,9 @@
 -- What is shown of a line: the command that is built, or its refusal (RULES 16.5).
-use Rattle.std.specs.Prelude.{Bool, false, cond, ◌||◌, List, [], ◌∷◌, ◌++◌, ℕ, ◌/◌, ◌%◌, eqb, get_or, take, codes, Option, None, Some, Result, Ok}
+use Rattle.std.specs.Prelude.{Bool, cond, ◌||◌, List, [], ◌∷◌, ◌++◌, ℕ, eqb, get_or, take, codes, Option, None, Some, Result, Ok}
 use Rattle.std.specs.List.{flat_map, list_all}
-use Rattle.std.specs.Fmt.{digit_glyph, decimal}
+use Rattle.std.specs.Fmt.{decimal}
 use Rattle.std.specs.Result.{result_map_both}
+use Rattle.output.specs.Shown.{two_digits}
 use Rattle.builder.specs.declared.Built.{Built}
 use Rattle.builder.specs.Builder.{build}
 use Rattle.order_words.specs.Words.{is_space}
@@ -12,7 +13,7 @@ use Rattle.order_shown.specs.declared.Answer.{Answer}
 
 -- Two hexadecimal digits for a byte.
 abbrev pub shown_byte : ℕ → List ℕ
-shown_byte byte = digit_glyph false (byte / 0x10) ∷ digit_glyph false (byte % 0x10) ∷ []
+shown_byte byte = two_digits byte
 
 -- Several bytes, with a space before each but the first.
 abbrev pub shown_bytes : List ℕ → List ℕ

@@ -2,6 +2,10 @@
 use Rattle.std.specs.Prelude.{Bool, false, cond, ◌&&◌, List, [], ◌∷◌, ℕ, ◌/◌, ◌%◌, eqb, leb}
 use Rattle.std.specs.Fmt.{digit_glyph}
 
+-- A byte in two hexadecimal digits.
+abbrev pub two_digits : ℕ → List ℕ
+two_digits byte = digit_glyph false (byte / 0x10) ∷ digit_glyph false (byte % 0x10) ∷ []
+
 -- From the space to the tilde.
 abbrev pub printable : ℕ → Bool
 printable byte = leb 0x20 byte && leb byte 0x7E
@@ -11,4 +15,4 @@ unfoldable pub shown : ℕ → List ℕ
 shown byte =
     cond (eqb byte 0x5C) (0x5C ∷ 0x5C ∷ [])
     (cond (printable byte) (byte ∷ [])
-    (0x5C ∷ 0x78 ∷ digit_glyph false (byte / 0x10) ∷ digit_glyph false (byte % 0x10) ∷ []))
+    (0x5C ∷ 0x78 ∷ two_digits byte))

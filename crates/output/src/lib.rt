@@ -1,10 +1,10 @@
 // Output: how the board's programs show a text that a drive or a person gave, and what of a line goes out in one write.
 #![tactic(auto)]
 
-ghost use Rattle.std.specs.Prelude.{◌≡◌, ◌<◌, ◌/◌, ◌%◌, ◌∷◌, [], false, Some};
+ghost use Rattle.std.specs.Prelude.{◌≡◌, ◌<◌, false, Some};
 ghost use Rattle.std.specs.List.{flat_map};
 ghost use Rattle.std.specs.Fmt.{digit_glyph};
-ghost use Rattle.output.specs.Shown.{printable, shown};
+ghost use Rattle.output.specs.Shown.{printable, shown, two_digits};
 
 use arrayvec::ArrayString;
 use std::fmt;
@@ -23,7 +23,7 @@ pub fn digit(number: u8) -> u8
 
 // A byte in two hexadecimal digits.
 pub fn digits(byte: u8) -> [u8; 2]
-    ensures { result ≡ digit_glyph false (byte / 16) ∷ digit_glyph false (byte % 16) ∷ [] }
+    ensures { result ≡ two_digits byte }
 {
     [digit(byte / 16), digit(byte % 16)]
 }
