@@ -115,7 +115,7 @@ fn limit(field: usize) -> u64
 fn value_of(field: usize, value: &[u8]) -> Option<u64>
     ensures { result ≡ value_of field value.now }
 {
-    match words::place_of(value, &DIRECTIONS) {
+    match words::place_of_bytes(value, &DIRECTIONS) {
         Some(direction) if field == DIRECTION => Some(direction as u64),
         _ => number::number_of(value),
     }
@@ -135,7 +135,7 @@ fn word_of(word: &[u8]) -> Result<Word, Fault>
     ensures field { IfOk result (λ said. said.field < 15) }
 {
     let size = equals_in(word).ok_or(Fault::NoEquals)?;
-    let field = words::place_of(&word[..size], &FIELDS).ok_or(Fault::NoField)?;
+    let field = words::place_of_bytes(&word[..size], &FIELDS).ok_or(Fault::NoField)?;
     let value = value_of(field, &word[size + 1..]).ok_or(Fault::NoNumber)?;
     if limit(field) <= value {
         return Err(Fault::TooLarge);
